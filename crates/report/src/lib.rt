@@ -38,8 +38,8 @@ pub fn add_outcome(out: &mut Vec<u8>, ticks: u64, fault: Option<Fault>) -> Resul
     ensures { λ r. ⌜ made r (λ _. vec-items (now (out .exit)) ≡ vec-items (now (out .entry)) ++ outcomeOf ticks fault) ⌝ }
 {
     let mut buffer = [0u8; 64];
-    let Ok(n) = outcome_line(ticks, fault, &mut buffer) else {
+    let Ok(length) = outcome_line(ticks, fault, &mut buffer) else {
         unreachable()
     };
-    out.extend_from_slice(&buffer[0..n])
+    out.extend_from_slice(&buffer[0..length])
 }
