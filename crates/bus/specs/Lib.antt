@@ -1,0 +1,4 @@
+pub mod With
+pub mod Outcomes
+pub mod Registers
+pub mod Fetch
