@@ -7,7 +7,8 @@ use Prim.Native.Nat.{ℕ, _+_, _-_, _/_, _%_, _^_, _≤_, _<_}
 use native.Mathlib.Omega.{arith}
 use native.Mathlib.Nat.{mod-lt}
 use lib.Dec.{eqb, ltb}
-use lib.ListN.{length, getD}
+use lib.ListN.{length, getD, set}
+use Rattle.std.proofs.shelf.Lists.{set-getD}
 use Rattle.std.specs.declared.option.Option.{Option}
 use Rattle.std.specs.declared.option.Option.the-variants.{Some, None}
 use Rattle.std.proofs.shelf.Tests.{both-ways, cases-lt, lt-ltb, le-ltb, and-parts}
@@ -23,23 +24,23 @@ use Rattle.counters.specs.declared.basic.BasicTimer.{BasicTimer}
 use Rattle.counters.specs.declared.basic.Passing.{Passing}
 use Rattle.counters.specs.Counting.{awake, flip, pulse, counted, runOn, stillFor, fewer}
 use Rattle.counters.specs.Timers.{Sane, timer, drive0, drive1, source0, source1, pulses, timerTicked, timerMoved, timerStill, at, of0, of1, timersTicked, timersMoved, timersStill}
-use Rattle.counters.specs.Buzzers.{buzzer, buzzerShift, buzzerLimit, buzzerStill}
-use Rattle.counters.specs.Basic.{basic, basicShift, basicStill}
+use Rattle.counters.specs.Buzzers.{buzzer, buzzerShift, buzzerLimit, buzzerMoved, buzzerStill}
+use Rattle.counters.specs.Basic.{basic, basicShift, basicMoved, basicStill}
 use Rattle.counters.specs.Quiet.{prescaled, Within, Longest, TimerQuiet, TimersQuiet, BuzzerQuiet, BasicQuiet}
-use Rattle.counters.proofs.Counters.{no-match, runs-on, matches}
+use Rattle.counters.proofs.Counters.{run-none, no-match, runs-on, matches}
 
-never : {X : Type 0} {j : ℕ} → None ≡ Some j → X
+pub never : {X : Type 0} {j : ℕ} → None ≡ Some j → X
 never e = absurd (let z : _≡_ {A = ℕ} 0 1 = cc in omega arith)
 
-the : {i j : ℕ} → Some i ≡ Some j → j ≡ i
+pub the : {i j : ℕ} → Some i ≡ Some j → j ≡ i
 the e = cc
 
 -- what nothing bounds
-unbounded : {Quiet : ℕ → Type 0} → ((j : ℕ) → Quiet j) → Longest None Quiet
+pub unbounded : {Quiet : ℕ → Type 0} → ((j : ℕ) → Quiet j) → Longest None Quiet
 unbounded q = record { quiet = λ j _. q j; ends = λ j e _. never e }
 
 -- where one of two things ends, both do
-longest-both : {P Q R : ℕ → Type 0} (a b : Option ℕ) → Longest a P → Longest b Q → ((j : ℕ) → P j → Q j → R j) → ((j : ℕ) → R j → P j × Q j) → Longest (fewer a b) R
+pub longest-both : {P Q R : ℕ → Type 0} (a b : Option ℕ) → Longest a P → Longest b Q → ((j : ℕ) → P j → Q j → R j) → ((j : ℕ) → R j → P j × Q j) → Longest (fewer a b) R
 longest-both None None p q f g = unbounded (λ j. f j (p .quiet j tt) (q .quiet j tt))
 longest-both None (Some v) p q f g = record { quiet = λ j h. f j (p .quiet j tt) (q .quiet j h); ends = λ j e r. q .ends j e (g j r .1) }
 longest-both (Some u) None p q f g = record { quiet = λ j h. f j (p .quiet j h) (q .quiet j tt); ends = λ j e r. p .ends j e (g j r .0) }
@@ -67,6 +68,11 @@ timer-longest (Divider n) p t ok cb lb = record {
   ends = λ j e q.
       both-ways _ (ap (λ (x : Timer × Bool). x .1) q) (matches 256 (t .count) (t .limit) cb lb n p ok j (the e));
 }
+
+pub timer-starts : (s : Source) (p : ℕ) (t : Timer) → Sane s → t .count < 256 → t .limit < 256 → timerMoved s p 0 t ≡ t
+timer-starts Event p t ok cb lb = refl
+timer-starts Held p t ok cb lb = refl
+timer-starts (Divider n) p t ok cb lb = ap (λ c. timer (t .control) (t .limit) c) (run-none 256 (t .count) (t .limit) cb lb n p ok)
 
 -- both timers
 control-kept : (s : Source) (p k : ℕ) (t : Timer) → timerMoved s p k t .control ≡ t .control
@@ -131,6 +137,13 @@ pair-longest mode p ts s0 s1 r0 r1 two e0 e1 v0 v1 l0 l1 =
     go (x ∷ y ∷ []) comp n a b = timers-longest mode p x y comp a b
     go (x ∷ y ∷ z ∷ zs) comp n a b = absurd (omega arith)
 
+pub pair-starts : (mode : Mode) (p : ℕ) (ts : Timers) (s0 s1 : Source) → s0 ≡ of0 mode ts → s1 ≡ of1 mode ts → timerMoved s0 p 0 (at ts 0) ≡ at ts 0 → timerMoved s1 p 0 (at ts 1) ≡ at ts 1 → timersMoved mode p 0 ts ≡ ts
+pair-starts mode p ts s0 s1 e0 e1 a b =
+    let x : timerMoved (of0 mode ts) p 0 (at ts 0) ≡ at ts 0 = ap (λ (s : Source). timerMoved s p 0 (at ts 0)) (sym e0) ∙ a in
+    let y : timerMoved (of1 mode ts) p 0 (at ts 1) ≡ at ts 1 = ap (λ (s : Source). timerMoved s p 0 (at ts 1)) (sym e1) ∙ b in
+    let z : set (set (ts .pair) 0 (at ts 0)) 1 (at ts 1) ≡ ts .pair = ap (λ (l : List Timer). set l 1 (at ts 1)) (set-getD (ts .pair) 0 (timer 0 0 0)) ∙ set-getD (ts .pair) 1 (timer 0 0 0) in
+    ap₂ (λ (u v : Timer). from (set (set (ts .pair) 0 u) 1 v) (ts .comp)) x y ∙ ap (λ (l : List Timer). from l (ts .comp)) z
+
 -- the buzzer
 not-self : (b : Bool) → not b ≡ b → ⊥
 not-self true e = both-ways true (sym e) refl
@@ -156,7 +169,17 @@ buzzer-longest Running p b sb cb =
     turned true j hit q = not-self (b .level) (ap (λ (v : Bool). flip v (b .level)) (sym hit) ∙ ap (λ (z : Buzzer). z .level) q)
     turned false j hit q = both-ways false refl hit
 
+pub buzzer-starts : (mode : Mode) (p : ℕ) (b : Buzzer) → buzzerShift b ≤ 11 → b .count < 64 → buzzerMoved mode p 0 b ≡ b
+buzzer-starts WakeUpTimer p b sb cb = refl
+buzzer-starts Stopped p b sb cb = refl
+buzzer-starts Running p b sb cb = ap (λ c. buzzer (b .bur) c (b .level)) (run-none 64 (b .count) (buzzerLimit b) cb (mod-lt (b .bur) (omega arith)) (buzzerShift b) p sb)
+
 -- the basic timer
+pub basic-starts : (mode : Mode) (p : ℕ) (b : BasicTimer) → basicShift b ≤ 11 → b .bitr < 256 → basicMoved mode p 0 b ≡ b
+basic-starts WakeUpTimer p b sb cb = refl
+basic-starts Stopped p b sb cb = refl
+basic-starts Running p b sb cb = ap (λ c. basic (b .control) c (b .wdtr) (b .watchdog)) (run-none 256 (b .bitr) 255 cb (omega arith) (basicShift b) p sb)
+
 pub basic-longest : (mode : Mode) (p : ℕ) (b : BasicTimer) → basicShift b ≤ 11 → b .bitr < 256 → Longest (basicStill mode p b) (BasicQuiet mode p b)
 basic-longest WakeUpTimer p b sb cb = unbounded (λ j. refl)
 basic-longest Stopped p b sb cb = unbounded (λ j. refl)

@@ -105,10 +105,12 @@ impl BasicTimer {
     pub fn still(&self, mode: Mode, prescaler: u16) -> Option<u64>
         ensures value { λ r. ⌜ r ≡ basicStill mode prescaler (now (self .entry)) ⌝ }
         ensures longest { λ r. ⌜ Longest r (BasicQuiet mode prescaler (now (self .entry))) ⌝ }
+        ensures starts { λ _. ⌜ basicMoved mode prescaler 0 (now (self .entry)) ≡ now (self .entry) ⌝ }
     {
+        let gap = 0xff - self.bitr;
         if !is_awake(mode) {
             return None;
         }
-        Some(ticks_before(self.shift(), prescaler, 0xff - self.bitr))
+        Some(ticks_before(self.shift(), prescaler, gap))
     }
 }

@@ -65,6 +65,7 @@ impl Buzzer {
     pub fn still(&self, mode: Mode, prescaler: u16) -> Option<u64>
         ensures value { λ r. ⌜ r ≡ buzzerStill mode prescaler (now (self .entry)) ⌝ }
         ensures longest { λ r. ⌜ (now (self .entry) .count < 64 → Longest r (BuzzerQuiet mode prescaler (now (self .entry)))) ⌝ }
+        ensures starts { λ _. ⌜ (now (self .entry) .count < 64 → buzzerMoved mode prescaler 0 (now (self .entry)) ≡ now (self .entry)) ⌝ }
     {
         if !is_awake(mode) {
             return None;

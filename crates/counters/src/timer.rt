@@ -108,6 +108,7 @@ impl Timer {
         requires { ⌜ Sane source ⌝ }
         ensures value { λ r. ⌜ r ≡ timerStill source prescaler (now (self .entry)) ⌝ }
         ensures longest { λ r. ⌜ Longest r (TimerQuiet source prescaler (now (self .entry))) ⌝ }
+        ensures starts { λ _. ⌜ timerMoved source prescaler 0 (now (self .entry)) ≡ now (self .entry) ⌝ }
     {
         match source {
             Source::Divider(n) => {
@@ -242,6 +243,7 @@ impl Timers {
     pub fn still(&self, mode: Mode, prescaler: u16) -> Option<u64>
         ensures value { λ r. ⌜ r ≡ timersStill mode prescaler (now (self .entry)) ⌝ }
         ensures longest { λ r. ⌜ Longest r (TimersQuiet mode prescaler (now (self .entry))) ⌝ }
+        ensures starts { λ _. ⌜ timersMoved mode prescaler 0 (now (self .entry)) ≡ now (self .entry) ⌝ }
     {
         let source0 = self.source0(mode);
         let source1 = self.source1(mode);

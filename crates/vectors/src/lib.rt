@@ -4,4 +4,6 @@ mod hosts_examples;
 #[cfg(test)]
 mod lines_examples;
 #[cfg(test)]
+mod stops_examples;
+#[cfg(test)]
 mod texts_examples;

@@ -6,7 +6,7 @@ use Rattle.std.specs.declared.option.Option.{Option}
 use Rattle.std.specs.declared.option.Option.the-variants.{Some}
 use Rattle.counters.specs.Basic.{basicStill}
 use Rattle.counters.specs.Quiet.{Longest, BasicQuiet}
-use Rattle.counters.proofs.Quiets.{basic-longest}
+use Rattle.counters.proofs.Quiets.{basic-longest, basic-starts}
 use Rattle.counters.proofs.basic.BasicTimer.still.Needs as need
 
 pub returns : need.returns
@@ -14,4 +14,5 @@ returns c =
     let b = c .args .self .now in
     let v : Some (c .ticks-before .result) ≡ basicStill (c .args .mode) (c .args .prescaler) b = search needs in
     let l = basic-longest (c .args .mode) (c .args .prescaler) b (omega arith) (omega arith) in
-    record { value = v; longest = subst (λ (r : Option ℕ). Longest r (BasicQuiet (c .args .mode) (c .args .prescaler) b)) (sym v) l }
+    let at0 = basic-starts (c .args .mode) (c .args .prescaler) b (omega arith) (omega arith) in
+    record { value = v; starts = at0; longest = subst (λ (r : Option ℕ). Longest r (BasicQuiet (c .args .mode) (c .args .prescaler) b)) (sym v) l }

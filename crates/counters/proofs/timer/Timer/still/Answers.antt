@@ -8,7 +8,7 @@ use Rattle.counters.specs.declared.timer.Source.{Source}
 use Rattle.counters.specs.declared.timer.Source.the-variants.{Divider}
 use Rattle.counters.specs.Timers.{Sane, timerStill}
 use Rattle.counters.specs.Quiet.{Longest, TimerQuiet}
-use Rattle.counters.proofs.Quiets.{timer-longest}
+use Rattle.counters.proofs.Quiets.{timer-longest, timer-starts}
 use Rattle.counters.proofs.timer.Timer.still.Needs as need
 
 pub returns-in-Divider : need.returns-in-Divider
@@ -18,4 +18,5 @@ returns-in-Divider c =
     let is = c .in-Divider .is in
     let v : Some (c .ticks-before .result) ≡ timerStill (c .args .source) p t = search needs in
     let l = timer-longest (c .args .source) p t (c .pre) (omega arith) (omega arith) in
-    record { value = v; longest = subst (λ (r : Option ℕ). Longest r (TimerQuiet (c .args .source) p t)) (sym v) l }
+    let at0 = timer-starts (c .args .source) p t (c .pre) (omega arith) (omega arith) in
+    record { value = v; starts = at0; longest = subst (λ (r : Option ℕ). Longest r (TimerQuiet (c .args .source) p t)) (sym v) l }
