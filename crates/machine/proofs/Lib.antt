@@ -1,1 +1,2 @@
 mod Spans
+mod Keeping

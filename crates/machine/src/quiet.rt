@@ -41,7 +41,8 @@ impl Machine {
 
     // Takes `ticks` quiet ticks at once.
     pub fn run_on(&mut self, ticks: u64)
-        ensures { λ _. ⌜ now (self .exit) ≡ moved ticks (now (self .entry)) ⌝ }
+        ensures value { λ _. ⌜ now (self .exit) ≡ moved ticks (now (self .entry)) ⌝ }
+        ensures sound { λ _. ⌜ (Sound (now (self .entry)) → Sound (now (self .exit))) ⌝ }
     {
         let mode = self.parts.mode;
         self.parts.timers.run_on(mode, self.prescaler, ticks);

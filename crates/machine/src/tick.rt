@@ -1,9 +1,12 @@
 ghost use mathlib.Core.Path.{_≡_};
 ghost use mathlib.Core.Bool.{_||_};
+ghost use Prim.Native.Nat.{_≤_};
+ghost use Rattle.std.specs.Vec.{made};
 ghost use Rattle.bus.specs.Outcomes.{after};
 ghost use Rattle.counters.specs.Counting.{awake};
 ghost use Rattle.ports.specs.Requests.{wakes};
 ghost use Rattle.machine.specs.Tick.{actionOf, begun, pinsOf, prescalerAfter, resets, finished};
+ghost use Rattle.machine.specs.Quiet.{Sound};
 use crate::state::Action;
 use crate::state::Machine;
 use faults::Fault;
@@ -59,7 +62,9 @@ impl Machine {
 
     // The first step: rests, accepts a request or executes. After a fault nothing is said of the machine.
     pub fn begin(&mut self, image: &[u8], host: u16) -> Result<(), Fault>
-        ensures { λ r. ⌜ after r (now (self .exit)) ≡ begun (now (self .entry)) (now (image .entry)) host ⌝ }
+        ensures value { λ r. ⌜ after r (now (self .exit)) ≡ begun (now (self .entry)) (now (image .entry)) host ⌝ }
+        ensures sound { λ r. ⌜ made r (λ _. Sound (now (self .entry)) → Sound (now (self .exit))) ⌝ }
+        ensures owed { λ r. ⌜ made r (λ _. now (self .entry) .owed ≤ 16 → now (self .exit) .owed ≤ 16) ⌝ }
     {
         match self.action() {
             Action::Rest => {}
@@ -90,7 +95,8 @@ impl Machine {
 
     // The third step: counters run, and edges between the host's words of the tick before and of this one set requests.
     pub fn finish(&mut self, image: &[u8], before: u16, at: u16)
-        ensures { λ _. ⌜ now (self .exit) ≡ finished (now (self .entry)) (now (image .entry)) before at ⌝ }
+        ensures value { λ _. ⌜ now (self .exit) ≡ finished (now (self .entry)) (now (image .entry)) before at ⌝ }
+        ensures sound { λ _. ⌜ (Sound (now (self .entry)) → Sound (now (self .exit))) ⌝ }
     {
         let mode = self.parts.mode;
         let prescaler = next_prescaler(mode, self.prescaler);
