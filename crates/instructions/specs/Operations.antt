@@ -79,19 +79,24 @@ abbrev pub bitPut : Parts → List ℕ → ℕ → ℕ → Bit → Bool → Resu
 bitPut m image host pc b on =
     bind (addressed m image host pc Place.Dp) (λ s. bind (readAt (s .0) image host pc (s .1)) (λ v. writtenAt (s .0) pc (s .1) (withMask v b on)))
 
--- a branch: the distance is fetched, and taken if the condition holds
+-- a branch, whose distance is fetched ahead of all that it reads: it goes there if its condition holds
+abbrev pub jumpedIf : Parts → ℕ → Bool → Parts × Bool
+jumpedIf m rel taken = (cond taken (by (λ r. jumped r rel) m) m, taken)
+
 abbrev pub branched : Parts → List ℕ → ℕ → Bool → Result (Parts × Bool) Fault
-branched m image pc taken = bind (fetched m image pc) (λ s. cond taken (Ok (by (λ r. jumped r (s .1)) (s .0), true)) (Ok (s .0, false)))
+branched m image pc taken = bind (fetched m image pc) (λ s. Ok (jumpedIf (s .0) (s .1) taken))
 
 abbrev pub branchedOn : Parts → List ℕ → ℕ → ℕ → Branch → Result (Parts × Bool) Fault
 branchedOn m image host pc (br.BitOfA b on) = branched m image pc (same (hasMask (m .registers .a) b) on)
 branchedOn m image host pc (br.BitOfDp b on) =
-    bind (addressed m image host pc Place.Dp) (λ s. bind (readAt (s .0) image host pc (s .1)) (λ v. branched (s .0) image pc (same (hasMask v b) on)))
+    bind (addressed m image host pc Place.Dp)
+    (λ s. bind (fetched (s .0) image pc) (λ t. bind (readAt (t .0) image host pc (s .1)) (λ v. Ok (jumpedIf (t .0) (t .1) (same (hasMask v b) on)))))
 branchedOn m image host pc (br.Flag f on) = branched m image pc (same (flagOf (m .registers) f) on)
 branchedOn m image host pc br.DbneDp =
     bind (addressed m image host pc Place.Dp)
-    (λ s. bind (readAt (s .0) image host pc (s .1))
-    (λ v. let w = (v + 255) % 256 in bind (writtenAt (s .0) pc (s .1) w) (λ t. branched t image pc (not (eqb w 0)))))
+    (λ s. bind (fetched (s .0) image pc)
+    (λ t. bind (readAt (t .0) image host pc (s .1))
+    (λ v. let w = (v + 255) % 256 in bind (writtenAt (t .0) pc (s .1) w) (λ u. Ok (jumpedIf u (t .1) (not (eqb w 0)))))))
 branchedOn m image host pc br.DbneY = let t : Registers × Bool = loweredY (m .registers) in branched (partsWithRegisters m (t .0)) image pc (t .1)
 
 -- PUSH and POP

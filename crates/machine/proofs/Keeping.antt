@@ -1,6 +1,6 @@
 -- A tick keeps what every machine keeps.
 use mathlib.Core.Path.{_≡_, refl, sym, ap, subst, _∙_}
-use mathlib.Core.Bool.{Bool, true, false, cond}
+use mathlib.Core.Bool.{Bool, true, false, cond, not}
 use mathlib.Core.List.{List}
 use Prim.Native.Nat.{ℕ, _+_, _-_, _*_, _/_, _%_, _<_, _≤_}
 use native.Mathlib.Omega.{arith}
@@ -36,10 +36,10 @@ use Rattle.bus.specs.Outcomes.{after, bind}
 use Rattle.bus.specs.Registers.{readAt, registerWritten, writtenAt}
 use Rattle.bus.specs.Fetch.{fetched, wordFetched, direct, pointerAt, addressed, operandOf, bytePushed, bytePulled, wordPushed, wordPulled}
 use Rattle.cpu.specs.declared.registers.Registers.{Registers}
-use Rattle.cpu.specs.State.{broken}
+use Rattle.cpu.specs.State.{broken, same}
 use Rattle.cpu.specs.Effects.{loweredY}
 use Rattle.bus.specs.With.{partsWithRegisters, partsWithRequests}
-use Rattle.instructions.specs.Operations.{by, calculatedWith, loadedWith, comparedWith, storedA, storedIndex, numberStored, shiftedAt, bitPut, branched, branchedOn, pushedSaved, poppedSaved, calledAt, called, pageCalled, tableCalled, interrupted, broke, returned, returnedFromInterrupt}
+use Rattle.instructions.specs.Operations.{by, calculatedWith, loadedWith, comparedWith, storedA, storedIndex, numberStored, shiftedAt, hasMask, bitPut, jumpedIf, branched, branchedOn, pushedSaved, poppedSaved, calledAt, called, pageCalled, tableCalled, interrupted, broke, returned, returnedFromInterrupt}
 use Rattle.instructions.specs.Execute.{plain, executed, instructed}
 use Rattle.ports.specs.Requests.{vectorOf, accepted}
 use Rattle.machine.specs.declared.state.Machine.{Machine}
@@ -144,16 +144,22 @@ calls-at m pc address h = then-all _ (pushes-word m pc (m .registers .pc) h) (λ
 interrupts : (m : Parts) (image : List ℕ) (pc vector : ℕ) → Kept m → All Kept (interrupted m image pc vector)
 interrupts m image pc vector h = then-all _ (pushes-word m pc (m .registers .pc) h) (λ s k. then-all _ (pushes s pc _ k) (λ t l. goes l))
 
+jumps : (m : Parts) (rel : ℕ) (taken : Bool) → Kept m → Keeps (jumpedIf m rel taken)
+jumps m rel true h = h
+jumps m rel false h = h
+
 branches : (m : Parts) (image : List ℕ) (pc : ℕ) (taken : Bool) → Kept m → All Keeps (branched m image pc taken)
-branches m image pc taken h = then-all _ (fetches m image pc h) (λ s k. either taken _ _ (goes k) (goes k))
+branches m image pc taken h = then-all _ (fetches m image pc h) (λ s k. goes (jumps (s .0) (s .1) taken k))
 
 branches-on : (m : Parts) (image : List ℕ) (host pc : ℕ) (b : Branch) → Kept m → All Keeps (branchedOn m image host pc b)
 branches-on m image host pc (br.BitOfA b on) h = branches m image pc _ h
-branches-on m image host pc (br.BitOfDp b on) h = then-all _ (addresses m image host pc Dp h) (λ s k. after-read _ _ (λ v. branches (s .0) image pc _ k))
+branches-on m image host pc (br.BitOfDp b on) h =
+    then-all _ (addresses m image host pc Dp h) (λ s k. then-all _ (fetches (s .0) image pc k) (λ t l. after-read _ _ (λ v. goes (jumps (t .0) (t .1) (same (hasMask v b) on) l))))
 branches-on m image host pc (br.Flag f on) h = branches m image pc _ h
 branches-on m image host pc br.DbneDp h =
     then-all _ (addresses m image host pc Dp h)
-    (λ s k. after-read _ _ (λ v. then-all _ (writes (s .0) pc (s .1) ((v + 255) % 256) k) (λ t l. branches t image pc _ l)))
+    (λ s k. then-all _ (fetches (s .0) image pc k)
+    (λ t l. after-read _ _ (λ v. then-all _ (writes (t .0) pc (s .1) ((v + 255) % 256) l) (λ u n. goes (jumps u (t .1) (not (eqb ((v + 255) % 256) 0)) n)))))
 branches-on m image host pc br.DbneY h = let t : Registers × Bool = loweredY (m .registers) in branches (partsWithRegisters m (t .0)) image pc (t .1) h
 
 shifts : (m : Parts) (image : List ℕ) (host pc : ℕ) (o : ShiftOp) (t : Target) → Kept m → All Kept (shiftedAt m image host pc o t)
