@@ -43,7 +43,7 @@ use Rattle.bus.specs.Outcomes.{bind}
 use Rattle.machine.specs.declared.state.Machine.{Machine}
 use Rattle.machine.specs.declared.state.Action.{Action}
 use Rattle.machine.specs.declared.state.Action.the-variants.{Rest, Accept, Execute}
-use Rattle.machine.specs.Tick.{machine, attended, actionOf, acted, begun, pinsOf, prescalerAfter, resets, Happened, happened, eventsOf, counted, resetMachine, finishedWith, finished}
+use Rattle.machine.specs.Tick.{machine, interruptOf, attended, actionOf, acted, begun, pinsOf, prescalerAfter, resets, Happened, happened, eventsOf, counted, resetMachine, finishedWith, finished}
 use Rattle.machine.specs.Quiet.{restFor, stillFor, prescalerMoved, moved, Nothing, QuietTick, ticked, oneByOne, Spans, Sound, Span}
 
 -- a word that stays has no edges
@@ -125,16 +125,15 @@ level-kept WakeUpTimer p k b = refl
 level-kept Stopped p k b = refl
 
 -- the first step rests as long as ticks are owed, or nothing wakes the chip
-acts : (i : Bool) (q : Option Interrupt) → attended i q ≡ Rest → ⊥
-acts true (Some x) e = let z : _≡_ {A = ℕ} 0 1 = cc in omega arith
-acts true None e = let z : _≡_ {A = ℕ} 0 1 = cc in omega arith
-acts false q e = let z : _≡_ {A = ℕ} 0 1 = cc in omega arith
+acts : (q : Option Interrupt) → attended q ≡ Rest → ⊥
+acts (Some x) e = let z : _≡_ {A = ℕ} 0 1 = cc in omega arith
+acts None e = let z : _≡_ {A = ℕ} 0 1 = cc in omega arith
 
-rest-longest : (up i : Bool) (q : Option Interrupt) (owed : ℕ) → Longest (cond up (Some owed) None) (λ j. cond (eqb (owed - j) 0 && up) (attended i q) Rest ≡ Rest)
-rest-longest false i q owed = unbounded (λ j. cond-false (eqb (owed - j) 0 && false) (attended i q) Rest (and-right (eqb (owed - j) 0) false refl))
-rest-longest true i q owed = record {
-  quiet = λ j h. let e = ne-eqb (owed - j) 0 (λ z. omega arith) in ap (λ (v : Bool). cond (v && true) (attended i q) Rest) e;
-  ends = λ j e r. let z : owed - j ≡ 0 = omega (arith, the e) in acts i q (ap (λ (v : Bool). cond (v && true) (attended i q) Rest) (sym (eq-eqb (owed - j) 0 z)) ∙ r);
+rest-longest : (up : Bool) (q : Option Interrupt) (owed : ℕ) → Longest (cond up (Some owed) None) (λ j. cond (eqb (owed - j) 0 && up) (attended q) Rest ≡ Rest)
+rest-longest false q owed = unbounded (λ j. cond-false (eqb (owed - j) 0 && false) (attended q) Rest (and-right (eqb (owed - j) 0) false refl))
+rest-longest true q owed = record {
+  quiet = λ j h. let e = ne-eqb (owed - j) 0 (λ z. omega arith) in ap (λ (v : Bool). cond (v && true) (attended q) Rest) e;
+  ends = λ j e r. let z : owed - j ≡ 0 = omega (arith, the e) in acts q (ap (λ (v : Bool). cond (v && true) (attended q) Rest) (sym (eq-eqb (owed - j) 0 z)) ∙ r);
 }
 
 module _ (m : Machine) (image : List ℕ) (w j : ℕ) where
@@ -198,7 +197,7 @@ module _ (m : Machine) (image : List ℕ) (w j : ℕ) where
 module _ (m : Machine) (T : Longest (timersStill (m .parts .mode) (m .prescaler) (m .parts .timers)) (TimersQuiet (m .parts .mode) (m .prescaler) (m .parts .timers))) (B : Longest (buzzerStill (m .parts .mode) (m .prescaler) (m .parts .buzzer)) (BuzzerQuiet (m .parts .mode) (m .prescaler) (m .parts .buzzer))) (C : Longest (basicStill (m .parts .mode) (m .prescaler) (m .parts .basic)) (BasicQuiet (m .parts .mode) (m .prescaler) (m .parts .basic))) where
   span-longest : (image : List ℕ) (w : ℕ) → Longest (stillFor m) (QuietTick m image w)
   span-longest image w =
-      longest-both (restFor m) _ (rest-longest (awake (m .parts .mode) || wakes (m .parts .requests)) (m .parts .registers .flags .i) (pending (m .parts .requests)) (m .owed))
+      longest-both (restFor m) _ (rest-longest (awake (m .parts .mode) || wakes (m .parts .requests)) (interruptOf (m .parts)) (m .owed))
       (longest-both _ _ T (longest-both _ _ B C (λ j b c. (b, c)) (λ j p. p)) (λ j t p. (t, p)) (λ j p. p))
       (λ j. together m image w j) (λ j. apart m image w j)
 

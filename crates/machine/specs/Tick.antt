@@ -40,17 +40,20 @@ use Rattle.machine.specs.declared.state.Action.the-variants.{Rest, Accept, Exe
 abbrev pub machine : Parts → ℕ → ℕ → Machine
 machine parts owed prescaler = record { parts = parts; owed = owed; prescaler = prescaler }
 
--- an awake chip accepts the first enabled request if I is set, and otherwise executes
-abbrev pub attended : Bool → Option Interrupt → Action
-attended true (Some i) = Accept i
-attended true None = Execute
-attended false q = Execute
+-- the request that is accepted: the first enabled one that is pending, if I is set
+abbrev pub interruptOf : Parts → Option Interrupt
+interruptOf p = cond (p .registers .flags .i) (pending (p .requests)) None
 
--- what an enabled request, or the next code, makes of a chip that owes no ticks; asleep it rests until a request wakes it
+-- an awake chip accepts that request, and otherwise executes
+abbrev pub attended : Option Interrupt → Action
+attended (Some i) = Accept i
+attended None = Execute
+
+-- what a chip that owes no ticks does; asleep it rests until a request wakes it
 abbrev pub actionOf : Machine → Action
 actionOf m =
     cond (eqb (m .owed) 0 && (awake (m .parts .mode) || wakes (m .parts .requests)))
-    (attended (m .parts .registers .flags .i) (pending (m .parts .requests))) Rest
+    (attended (interruptOf (m .parts))) Rest
 
 -- awake again
 abbrev pub woken : Parts → Parts

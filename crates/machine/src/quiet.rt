@@ -1,4 +1,7 @@
 ghost use mathlib.Core.Path.{_≡_};
+ghost use mathlib.Core.Bool.{_||_};
+ghost use Rattle.counters.specs.Counting.{awake};
+ghost use Rattle.ports.specs.Requests.{wakes};
 ghost use Rattle.machine.specs.Quiet.{restFor, stillFor, prescalerMoved, moved, Sound, Span};
 use crate::state::Machine;
 use counters::span::fewer_ticks;
@@ -16,6 +19,17 @@ fn run_prescaler(mode: Mode, prescaler: u16, ticks: u64) -> u16
 }
 
 impl Machine {
+    // Whether the chip is awake, or a request wakes it.
+    fn is_up(&self) -> bool
+        ensures { λ r. ⌜ r ≡ (awake (now (self .entry) .parts .mode) || wakes (now (self .entry) .parts .requests)) ⌝ }
+    {
+        match self.parts.mode {
+            Mode::Running => true,
+            Mode::WakeUpTimer => self.parts.requests.is_waking(),
+            Mode::Stopped => self.parts.requests.is_waking(),
+        }
+    }
+
     // The ticks in which the first step rests. None where nothing wakes the chip.
     fn rest(&self) -> Option<u64>
         ensures { λ r. ⌜ r ≡ restFor (now (self .entry)) ⌝ }

@@ -1,11 +1,8 @@
 ghost use mathlib.Core.Path.{_≡_};
-ghost use mathlib.Core.Bool.{_||_};
 ghost use Prim.Native.Nat.{_≤_};
 ghost use Rattle.std.specs.Vec.{made};
 ghost use Rattle.bus.specs.Outcomes.{after};
-ghost use Rattle.counters.specs.Counting.{awake};
-ghost use Rattle.ports.specs.Requests.{wakes};
-ghost use Rattle.machine.specs.Tick.{actionOf, begun, pinsOf, prescalerAfter, resets, finished};
+ghost use Rattle.machine.specs.Tick.{interruptOf, actionOf, begun, pinsOf, prescalerAfter, resets, finished};
 ghost use Rattle.machine.specs.Quiet.{Sound};
 use crate::state::Action;
 use crate::state::Machine;
@@ -14,6 +11,7 @@ use instructions::call::interrupt;
 use instructions::execute::instruct;
 use ports::edges::Edges;
 use ports::request::Events;
+use ports::request::Interrupt;
 use recorder::mode::Mode;
 use recorder::pin_sample::PinSample;
 
@@ -32,14 +30,14 @@ fn next_prescaler(mode: Mode, prescaler: u16) -> u16
 }
 
 impl Machine {
-    // Whether the chip is awake, or a request wakes it.
-    pub(crate) fn is_up(&self) -> bool
-        ensures { λ r. ⌜ r ≡ (awake (now (self .entry) .parts .mode) || wakes (now (self .entry) .parts .requests)) ⌝ }
+    // The request that is accepted: the first enabled one that is pending, if I is set.
+    fn interrupt(&self) -> Option<Interrupt>
+        ensures { λ r. ⌜ r ≡ interruptOf (now (self .entry) .parts) ⌝ }
     {
-        match self.parts.mode {
-            Mode::Running => true,
-            Mode::WakeUpTimer => self.parts.requests.is_waking(),
-            Mode::Stopped => self.parts.requests.is_waking(),
+        if self.parts.registers.flags.i {
+            self.parts.requests.first_pending()
+        } else {
+            None
         }
     }
 
@@ -47,16 +45,19 @@ impl Machine {
     pub fn action(&self) -> Action
         ensures { λ r. ⌜ r ≡ actionOf (now (self .entry)) ⌝ }
     {
-        if self.owed > 0 || !self.is_up() {
+        if self.owed > 0 {
             return Action::Rest;
         }
         match (
-            self.parts.registers.flags.i,
-            self.parts.requests.first_pending(),
+            self.parts.mode,
+            self.parts.requests.is_waking(),
+            self.interrupt(),
         ) {
-            (true, Some(interrupt)) => Action::Accept(interrupt),
-            (true, None) => Action::Execute,
-            (false, _) => Action::Execute,
+            (Mode::Running, _, Some(interrupt)) => Action::Accept(interrupt),
+            (Mode::Running, _, None) => Action::Execute,
+            (_, true, Some(interrupt)) => Action::Accept(interrupt),
+            (_, true, None) => Action::Execute,
+            (_, false, _) => Action::Rest,
         }
     }
 
