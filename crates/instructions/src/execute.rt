@@ -33,11 +33,14 @@ use sheet::operation::Place;
 use sheet::table::Entry;
 use sheet::table::entry_of;
 
+// WAKEUP of CKCTLR.
+const WAKEUP: u8 = 0x40;
+
 // The mode that STOP gives.
 fn sleep_mode(m: &Parts) -> Mode
     ensures { λ r. ⌜ r ≡ sleepMode (now (m .entry)) ⌝ }
 {
-    if m.basic.control / 64 % 2 == 1 {
+    if m.basic.control / WAKEUP % 2 == 1 {
         Mode::WakeUpTimer
     } else {
         Mode::Stopped

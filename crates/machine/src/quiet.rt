@@ -4,6 +4,7 @@ ghost use Rattle.counters.specs.Counting.{awake};
 ghost use Rattle.ports.specs.Requests.{wakes};
 ghost use Rattle.machine.specs.Quiet.{restFor, stillFor, prescalerMoved, moved, Sound, Span};
 use crate::state::Machine;
+use crate::state::PRESCALER;
 use counters::span::fewer_ticks;
 use recorder::mode::Mode;
 
@@ -12,8 +13,9 @@ fn run_prescaler(mode: Mode, prescaler: u16, ticks: u64) -> u16
     ensures { λ r. ⌜ r ≡ prescalerMoved mode prescaler ticks ⌝ }
 {
     match mode {
-        Mode::Running => (prescaler % 2048 + (ticks % 2048) as u16) % 2048,
-        Mode::WakeUpTimer => (prescaler % 2048 + (ticks % 2048) as u16) % 2048,
+        Mode::Running => (prescaler % PRESCALER + (ticks % PRESCALER as u64) as u16) % PRESCALER,
+        Mode::WakeUpTimer => (prescaler % PRESCALER + (ticks % PRESCALER as u64) as u16)
+            % PRESCALER,
         Mode::Stopped => prescaler,
     }
 }

@@ -6,6 +6,7 @@ ghost use Rattle.machine.specs.Tick.{interruptOf, actionOf, begun, pinsOf, pre
 ghost use Rattle.machine.specs.Quiet.{Sound};
 use crate::state::Action;
 use crate::state::Machine;
+use crate::state::PRESCALER;
 use faults::Fault;
 use instructions::call::interrupt;
 use instructions::execute::instruct;
@@ -18,13 +19,16 @@ use recorder::pin_sample::PinSample;
 // The ticks that an accepted request owes.
 const ACCEPTED: u8 = 16;
 
+// WDTON of CKCTLR.
+const WDTON: u8 = 0x10;
+
 // The prescaler after a tick in a mode.
 fn next_prescaler(mode: Mode, prescaler: u16) -> u16
     ensures { λ r. ⌜ r ≡ prescalerAfter mode prescaler ⌝ }
 {
     match mode {
-        Mode::Running => (prescaler % 2048 + 1) % 2048,
-        Mode::WakeUpTimer => (prescaler % 2048 + 1) % 2048,
+        Mode::Running => (prescaler % PRESCALER + 1) % PRESCALER,
+        Mode::WakeUpTimer => (prescaler % PRESCALER + 1) % PRESCALER,
         Mode::Stopped => prescaler,
     }
 }
@@ -103,7 +107,7 @@ impl Machine {
         let prescaler = next_prescaler(mode, self.prescaler);
         let edges = Edges::between(&self.parts.ports, self.parts.requests.ieds, before, at);
         let matches = self.parts.timers.tick(mode, prescaler, edges.ec0);
-        let resets = self.parts.basic.control / 16 % 2 == 1;
+        let resets = self.parts.basic.control / WDTON % 2 == 1;
         self.parts.buzzer.tick(mode, prescaler);
         let passing = self.parts.basic.tick(mode, prescaler);
         self.parts.requests.note(Events {

@@ -2,6 +2,15 @@ ghost use mathlib.Core.Path.{_≡_};
 ghost use Rattle.ports.specs.Edges.{selected, int0Edge, int1Edge, ec0Rises, edgesOf};
 use crate::port::Ports;
 
+// The bits of RBFUNC that let INT0 and INT1 in, and the pins that these are.
+const INT0I: u8 = 0x04;
+
+const INT1I: u8 = 0x08;
+
+const RB2: u16 = 0x0400;
+
+const RB3: u16 = 0x0800;
+
 // The edges of a tick.
 #[derive(Clone, Copy)]
 pub struct Edges {
@@ -23,20 +32,20 @@ fn is_selected(pair: u8, before: bool, at: bool) -> bool
 fn is_int0(ports: &Ports, ieds: u8, before: u16, at: u16) -> bool
     ensures { λ r. ⌜ r ≡ int0Edge (now (ports .entry)) ieds before at ⌝ }
 {
-    if ports.rbfunc / 4 % 2 == 0 {
+    if ports.rbfunc / INT0I % 2 == 0 {
         return false;
     }
-    is_selected(ieds, before / 0x0400 % 2 == 1, at / 0x0400 % 2 == 1)
+    is_selected(ieds, before / RB2 % 2 == 1, at / RB2 % 2 == 1)
 }
 
 // INT1 is RB3, if INT1I is set.
 fn is_int1(ports: &Ports, ieds: u8, before: u16, at: u16) -> bool
     ensures { λ r. ⌜ r ≡ int1Edge (now (ports .entry)) ieds before at ⌝ }
 {
-    if ports.rbfunc / 8 % 2 == 0 {
+    if ports.rbfunc / INT1I % 2 == 0 {
         return false;
     }
-    is_selected(ieds / 4, before / 0x0800 % 2 == 1, at / 0x0800 % 2 == 1)
+    is_selected(ieds / 4, before / RB3 % 2 == 1, at / RB3 % 2 == 1)
 }
 
 // EC0 is RA0, while its direction is 0.

@@ -7,6 +7,11 @@ const RB1: u16 = 0x0200;
 
 const RB4: u16 = 0x1000;
 
+// The bits of RBFUNC that give them.
+const BUZO: u8 = 0x02;
+
+const PWMO: u8 = 0x10;
+
 // Latches, directions (1 is out) and function registers.
 #[derive(Clone, Copy)]
 pub struct Ports {
@@ -93,13 +98,13 @@ impl Ports {
     fn is_buzo(&self) -> bool
         ensures { λ r. ⌜ r ≡ buzo (now (self .entry)) ⌝ }
     {
-        self.rbfunc / 2 % 2 == 1
+        self.rbfunc / BUZO % 2 == 1
     }
 
     // PWMO gives RB4 to COMP.
     fn is_pwmo(&self) -> bool
         ensures { λ r. ⌜ r ≡ pwmo (now (self .entry)) ⌝ }
     {
-        self.rbfunc / 16 % 2 == 1
+        self.rbfunc / PWMO % 2 == 1
     }
 }

@@ -58,13 +58,13 @@ const WAKING: u8 = 0xe0;
 fn first_high(bits: u8) -> Option<Interrupt>
     ensures { λ r. ⌜ r ≡ firstHigh bits ⌝ }
 {
-    if bits / 128 % 2 == 1 {
+    if bits / INT0 % 2 == 1 {
         Some(Interrupt::Int0)
-    } else if bits / 64 % 2 == 1 {
+    } else if bits / INT1 % 2 == 1 {
         Some(Interrupt::Int1)
-    } else if bits / 32 % 2 == 1 {
+    } else if bits / T0 % 2 == 1 {
         Some(Interrupt::Timer0)
-    } else if bits / 16 % 2 == 1 {
+    } else if bits / T1 % 2 == 1 {
         Some(Interrupt::Timer1)
     } else {
         None
@@ -75,11 +75,11 @@ fn first_high(bits: u8) -> Option<Interrupt>
 fn first_low(bits: u8) -> Option<Interrupt>
     ensures { λ r. ⌜ r ≡ firstLow bits ⌝ }
 {
-    if bits / 128 % 2 == 1 {
+    if bits / AD % 2 == 1 {
         Some(Interrupt::Converter)
-    } else if bits / 64 % 2 == 1 {
+    } else if bits / WDT % 2 == 1 {
         Some(Interrupt::Watchdog)
-    } else if bits / 32 % 2 == 1 {
+    } else if bits / BIT % 2 == 1 {
         Some(Interrupt::Basic)
     } else {
         None
