@@ -1,4 +1,6 @@
 // The bench: a chip that is powered on and run, tick by tick or in leaps, with its two charts.
+#![tactic(auto)]
+
 pub mod calls;
 pub mod chip;
 pub mod held;

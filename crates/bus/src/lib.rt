@@ -1,4 +1,6 @@
 // The chip's parts and the bus between them: RAM, registers and the image.
+#![tactic(auto)]
+
 pub mod fetch;
 pub mod image;
 pub mod parts;

@@ -1,4 +1,6 @@
 // A C interface: plays one described experiment on the bench.
+#![tactic(auto)]
+
 mod bytes;
 mod description;
 pub mod interface;

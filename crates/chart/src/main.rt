@@ -1,4 +1,6 @@
 // Reads an image and a grant from standard input, plays the image, and prints its charts.
+#![tactic(auto)]
+
 use recorder::mode::Mode;
 use recorder::pin_sample::PinSample;
 use recorder::stretch::Stretch;

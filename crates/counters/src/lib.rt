@@ -1,5 +1,7 @@
 // The chip's counters: two timers, the buzzer and the basic interval timer with its watchdog.
 // All run on one prescaler, which adds 1 modulo 2,048 at each tick.
+#![tactic(auto)]
+
 pub mod basic;
 pub mod buzzer;
 mod divider;

@@ -1,4 +1,6 @@
 // Every refusal and stop of the bench.
+#![tactic(auto)]
+
 ghost use Rattle.std.specs.Prelude.{◌≡◌};
 ghost use Rattle.faults.specs.Faults.{number_of, source_of};
 

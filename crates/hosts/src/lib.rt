@@ -1,4 +1,6 @@
 // Pin hosts: what is wired to the pins of the chip.
+#![tactic(auto)]
+
 pub mod host;
 pub mod join;
 pub mod lent;

@@ -1,4 +1,6 @@
 // The chip's instructions: each takes effect whole.
+#![tactic(auto)]
+
 mod branch;
 pub mod call;
 pub mod execute;

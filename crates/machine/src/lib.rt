@@ -1,4 +1,6 @@
 // The chip below its calls: one tick, in three steps, and the quiet span.
+#![tactic(auto)]
+
 pub mod quiet;
 pub mod reset;
 pub mod state;

@@ -1,4 +1,6 @@
 // Charts of recorded pins.
+#![tactic(auto)]
+
 pub mod charted;
 pub mod recorded;
 pub mod walk;

@@ -1,4 +1,6 @@
 // Reads a text that describes recorded pins from standard input, and prints the chart of what they show.
+#![tactic(auto)]
+
 use anyhow::anyhow;
 use pinchart::recorded::print_recording;
 use recorder::pin_sample::PinSample;

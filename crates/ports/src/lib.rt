@@ -1,4 +1,6 @@
 // The chip's ports, and its interrupt requests with the edges that set them.
+#![tactic(auto)]
+
 pub mod edges;
 pub mod port;
 pub mod request;

@@ -9,6 +9,8 @@
 //     wave WWWW LOW HIGH    a square wave: at most one line
 //
 // OFFSET, LENGTH, LOW and HIGH are below 2^64. Whether a host takes these pulses and this wave is not tested here.
+#![tactic(auto)]
+
 ghost use Rattle.std.specs.Prelude.{◌≡◌};
 ghost use Rattle.recording.specs.Read.{noted, step_of, Answers, read_all};
 ghost use Rattle.recording.specs.declared.TextError.TheVariants.{OutOfMemory};

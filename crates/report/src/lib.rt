@@ -1,4 +1,6 @@
 // Charts and outcomes as text, for the programs.
+#![tactic(auto)]
+
 ghost use Rattle.std.specs.Prelude.{◌≡◌, ◌++◌, OnOk};
 ghost use Rattle.std.specs.List.{flat_map};
 ghost use Rattle.recorder.specs.Lines.{line_of, outcome_of};

@@ -1,5 +1,7 @@
 // Plays one image before one host in several ways, and prints what each comes to, and whether its answers, record and
 // charts are those of one grant by ticks. The image is read from standard input.
+#![tactic(auto)]
+
 mod board;
 mod mixed;
 mod numbers;

@@ -1,4 +1,6 @@
 // Charts as a VCD file (Value Change Dump, IEEE 1364), which wave viewers read.
+#![tactic(auto)]
+
 mod bytes;
 mod header;
 mod values;

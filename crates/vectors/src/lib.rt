@@ -1,4 +1,6 @@
 // Worked examples of hosts, charts, lines, texts and runs, run as tests.
+#![tactic(auto)]
+
 #[cfg(test)]
 mod calls_examples;
 #[cfg(test)]

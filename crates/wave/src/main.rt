@@ -1,4 +1,6 @@
 // Reads an image and a grant from standard input, plays the image, and writes its charts as a VCD file.
+#![tactic(auto)]
+
 mod image;
 
 use anyhow::anyhow;
