@@ -6,7 +6,7 @@ use crate::stretch::{Sample, Stretch};
 
 // Whether the chart has the counted places and the last counted stretch ends at `tick`.
 pub fn fits<S: Sample>(chart: &[Stretch<S>], count: usize, tick: u64) -> bool
-    ensures { result ≡ fitting kind chart.now count tick }
+    ensures { result ≡ fitting S.kind chart.now count tick }
 {
     if count > chart.len() {
         return false;
@@ -21,7 +21,7 @@ pub fn fits<S: Sample>(chart: &[Stretch<S>], count: usize, tick: u64) -> bool
 // Whether the last counted stretch has this sample.
 fn goes_on<S: Sample>(chart: &[Stretch<S>], count: usize, sample: &S) -> bool
     requires { count ≤ length chart.now }
-    ensures { result ≡ goes_on kind chart.now count sample.now }
+    ensures { result ≡ goes_on S.kind chart.now count sample.now }
 {
     if count == 0 {
         return false;
@@ -32,7 +32,7 @@ fn goes_on<S: Sample>(chart: &[Stretch<S>], count: usize, sample: &S) -> bool
 
 // The tick after the last counted stretch, unless the chart lacks counted places or `ticks` more would pass 64 bits.
 fn next_tick<S: Sample>(chart: &[Stretch<S>], count: usize, ticks: u64) -> Option<u64>
-    ensures { result ≡ (if roomy kind chart.now count ticks then Some (end_of kind chart.now count) else None) }
+    ensures { result ≡ (if roomy S.kind chart.now count ticks then Some (end_of S.kind chart.now count) else None) }
 {
     if count > chart.len() {
         return None;
@@ -58,9 +58,9 @@ fn extend<S: Sample>(
 ) -> Option<usize>
     requires some { 0 < ticks }
     requires places { count ≤ length chart.old }
-    requires early { end_of kind chart.old count + ticks < 2 ^ 64 }
-    requires next { offset ≡ end_of kind chart.old count }
-    ensures { (result, chart.new) ≡ appended kind chart.old count ticks sample }
+    requires early { end_of S.kind chart.old count + ticks < 2 ^ 64 }
+    requires next { offset ≡ end_of S.kind chart.old count }
+    ensures { (result, chart.new) ≡ appended S.kind chart.old count ticks sample }
 {
     if goes_on(chart, count, &sample) {
         chart[count - 1].length += ticks;
@@ -79,7 +79,7 @@ fn extend<S: Sample>(
 
 // Whether there is a place for `ticks` more ticks of one sample.
 pub fn has_place<S: Sample>(chart: &[Stretch<S>], count: usize, ticks: u64, sample: &S) -> bool
-    ensures { result ≡ is_some (appended kind chart.now count ticks sample.now).0 }
+    ensures { result ≡ is_some (appended S.kind chart.now count ticks sample.now).0 }
 {
     if ticks == 0 {
         return true;
@@ -97,8 +97,8 @@ pub fn append<S: Sample>(
     ticks: u64,
     sample: S,
 ) -> Option<usize>
-    ensures value { (result, chart.new) ≡ appended kind chart.old count ticks sample }
-    ensures facts { Adds kind chart.old count ticks sample result chart.new }
+    ensures value { (result, chart.new) ≡ appended S.kind chart.old count ticks sample }
+    ensures facts { Adds S.kind chart.old count ticks sample result chart.new }
 {
     if ticks == 0 {
         return Some(count);

@@ -10,7 +10,7 @@ const LINE: usize = 64;
 
 // Writes the line of a stretch and 0A at the buffer's start, keeps the rest, and answers their length.
 pub fn line<S: Sample>(stretch: &Stretch<S>, buffer: &mut [u8]) -> Result<usize, Fault>
-    ensures written { (result, buffer.new) ≡ lined (line_of script stretch.now) buffer.old }
+    ensures written { (result, buffer.new) ≡ lined (line_of S.script stretch.now) buffer.old }
     ensures fits { IfOk result (λ n. n ≤ 64) }
 {
     if buffer.len() < LINE {

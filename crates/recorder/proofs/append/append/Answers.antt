@@ -9,10 +9,10 @@ returns-then-ticks-eq0 g c =
     let e = sym (adds_none g.S.Sample.kind a.chart.now a.count a.ticks a.sample c.if-ticks-eq0.true) in
     record { value = e; facts = adds g.S.Sample.kind a.chart.now a.count a.ticks a.sample _ _ e }
 
-pub returns-in-default : goal.returns-in-default
-returns-in-default g c =
+pub returns-in_default : goal.returns-in_default
+returns-in_default g c =
     let a = c.args in
-    let unfit = next_none g.S.Sample.kind a.chart.now a.count a.ticks c.in-default.ensures in
+    let unfit = next_none g.S.Sample.kind a.chart.now a.count a.ticks c.in_default.ensures in
     let e = sym (adds_unfit g.S.Sample.kind a.chart.now a.count a.ticks a.sample (omega arith) unfit) in
     record { value = e; facts = adds g.S.Sample.kind a.chart.now a.count a.ticks a.sample _ _ e }
 

@@ -10,6 +10,6 @@ returns-then-buffer-lt-LINE c = record { written = lined_short c.args.buffer.now
 pub returns : goal.returns
 returns c =
     let a = c.args in
-    let P : ℕ → Type 0 = λ n. Put a.buffer.now 0 (start_of 84 a.ticks n ++ (10 ∷ [])) c.put-byte.new.buffer c.put-byte.result in
-    let p = subst P c.fault-number-number.ensures (put_then c.put-start-end.ensures.put c.put-byte.ensures) in
-    record { written = lined_put a.buffer.now (outcome_of a.ticks a.fault) c.put-byte.new.buffer c.put-byte.result (omega arith) (omega arith) p; fits = omega arith }
+    let P : ℕ → Type 0 = λ n. Put a.buffer.now 0 (start_of 84 a.ticks n ++ (10 ∷ [])) c.put_byte.new.buffer c.put_byte.result in
+    let p = subst P c.fault_number-number.ensures (put_then c.put_start-end.ensures.put c.put_byte.ensures) in
+    record { written = lined_put a.buffer.now (outcome_of a.ticks a.fault) c.put_byte.new.buffer c.put_byte.result (omega arith) (omega arith) p; fits = omega arith }

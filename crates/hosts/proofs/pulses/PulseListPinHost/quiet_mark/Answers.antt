@@ -19,8 +19,8 @@ returns-then-n-self c =
     let f = found_past s.pulses.now c.args.t c.ended-n.result s.apart c.ended-n.ensures c.if-n-self.true in
     record { rule = from_mark s c.args.t None (sym f.1); value = sym f.1 }
 
-pub overflow-add-turn : goal.overflow-add-turn
-overflow-add-turn c =
+pub overflow_add-turn : goal.overflow_add-turn
+overflow_add-turn c =
     let s = c.args.self.now in
     let f = found_in s.pulses.now c.args.t c.ended-n.result s.apart c.ended-n.ensures c.if-n-self.false in
     omega arith

@@ -22,8 +22,8 @@ returns-then-t-ge-HORIZON c =
 pub returns-then-turn-lt-HORIZON : goal.returns-then-turn-lt-HORIZON
 returns-then-turn-lt-HORIZON c =
     let s = c.args.self.now in
-    let e : Some c.next-turn-turn.result ≡ capped (turn_after s.low s.high c.args.t) = grind (arith, nat_tests) in
-    record { rule = from_mark s c.args.t (Some c.next-turn-turn.result) e; value = e }
+    let e : Some c.next_turn-turn.result ≡ capped (turn_after s.low s.high c.args.t) = grind (arith, nat_tests) in
+    record { rule = from_mark s c.args.t (Some c.next_turn-turn.result) e; value = e }
 
 pub returns-else-turn-lt-HORIZON : goal.returns-else-turn-lt-HORIZON
 returns-else-turn-lt-HORIZON c =
