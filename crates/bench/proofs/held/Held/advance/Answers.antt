@@ -8,12 +8,12 @@ use Rattle.bench.specs.Leaps.{Reaches}
 use Rattle.bench.proofs.Leaping.{advance_faults, advance_stops, advance_goes, takes_some, takes_most, reaches_by, reach_by, bounded_by}
 use Rattle.bench.proofs.held.Held.advance.Goals as goal
 
-pub returns-in-err-begin : goal.returns-in-err-begin
-returns-in-err-begin c =
+pub returns-in_err-begin : goal.returns-in_err-begin
+returns-in_err-begin c =
     let p = err_from_is_err_and c.from-residual.result c.from-residual.ensures.1 in
     let h = c.args.self.now in
     let n = c.args.seen.now in
-    let e = c.in-err-begin.ensures.value in
+    let e = c.in_err-begin.ensures.value in
     rw (p.1, p.2) (record {
       value = advance_faults c.args.image.now n c.args.most h (both c.args.pins.now c.args.modes.now) _ e;
       takes = tt;
@@ -23,21 +23,21 @@ returns-in-err-begin c =
     })
 
 pub stride-quiet-requires : goal.stride-quiet-requires
-stride-quiet-requires c = c.in-ok-begin.ensures.sound c.requires.ready.whole.machine.sound
+stride-quiet-requires c = c.in_ok-begin.ensures.sound c.requires.ready.whole.machine.sound
 
 pub go-on-requires : goal.go-on-requires
 go-on-requires c =
     let few = takes_most c.stride-quiet.result c.args.most c.stride-quiet.ensures.longest.granted c.requires.some in
     omega (arith, c.requires.time)
 
-pub returns-in-err-add : goal.returns-in-err-add
-returns-in-err-add c =
-    let p = err_from_is_err_and c.from-residual-in-err-add.result c.from-residual-in-err-add.ensures.1 in
+pub returns-in_err-add : goal.returns-in_err-add
+returns-in_err-add c =
+    let p = err_from_is_err_and c.from_residual-in_err-add.result c.from_residual-in_err-add.ensures.1 in
     let h = c.args.self.now in
     let n = c.args.seen.now in
-    let begun = c.in-ok-begin.ensures in
+    let begun = c.in_ok-begin.ensures in
     let k = c.stride-quiet.ensures in
-    let s = advance_stops c.args.image.now n c.args.most h (both c.args.pins.now c.args.modes.now) c.begin.new.self begun.value c.stride-quiet.result k.value c.ticks-of-ticks.result c.ticks-of-ticks.ensures c.samples-samples.result c.samples-samples.ensures _ _ _ c.in-err-add.ensures in
+    let s = advance_stops c.args.image.now n c.args.most h (both c.args.pins.now c.args.modes.now) c.begin.new.self begun.value c.stride-quiet.result k.value c.ticks-of-ticks.result c.ticks-of-ticks.ensures c.samples-samples.result c.samples-samples.ensures _ _ _ c.in_err-add.ensures in
     rw (p.1, p.2) (record {
       value = s.0;
       takes = tt;
@@ -50,14 +50,14 @@ pub returns : goal.returns
 returns c =
     let h = c.args.self.now in
     let n = c.args.seen.now in
-    let begun = c.in-ok-begin.ensures in
+    let begun = c.in_ok-begin.ensures in
     let k = c.stride-quiet.ensures in
     let all = c.ticks-of-ticks.ensures in
     let few = takes_most c.stride-quiet.result c.args.most k.longest.granted c.requires.some in
     let some = takes_some c.stride-quiet.result in
     let time = c.requires.time in
     let acted = bounded_by h.moment.machine c.begin.new.self _ begun.value c.requires.ready.whole.machine begun.sound begun.owed in
-    let s = advance_goes c.args.image.now n c.args.most h (both c.args.pins.now c.args.modes.now) c.begin.new.self begun.value c.stride-quiet.result k.value c.ticks-of-ticks.result all c.samples-samples.result c.samples-samples.ensures _ _ c.go-on.new.self c.go-on.ensures.value (omega arith) (omega arith) (λ b. c.go-on.ensures.bounded (record { sound = begun.sound b.sound; owed = begun.owed b.owed })) c.in-ok-add.ensures in
+    let s = advance_goes c.args.image.now n c.args.most h (both c.args.pins.now c.args.modes.now) c.begin.new.self begun.value c.stride-quiet.result k.value c.ticks-of-ticks.result all c.samples-samples.result c.samples-samples.ensures _ _ c.go-on.new.self c.go-on.ensures.value (omega arith) (omega arith) (λ b. c.go-on.ensures.bounded (record { sound = begun.sound b.sound; owed = begun.owed b.owed })) c.in_ok-add.ensures in
     record {
       value = s.0;
       takes = reach_by n c.args.most h.moment.tick _ c.begin.new.self c.stride-quiet.result c.ticks-of-ticks.result begun.value k.value all;

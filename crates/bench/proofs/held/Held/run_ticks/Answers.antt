@@ -24,7 +24,7 @@ loop-done-preserved g c =
     let inv = c.loop-done.invariant in
     let room = inv.0.room in
     let word = c.levels-word.ensures ∙ level c.args.image.now (g.P.PinHost.meaning c.args.host.now) c.loop-done.self.moment.tick (omega arith) in
-    let p = running_goes _ _ _ _ _ _ _ _ inv.0 _ _ _ _ c.loop-done-test.true inv.1 word c.in-default.ensures.value (c.in-default.ensures.ready inv.0.ready) in
+    let p = running_goes _ _ _ _ _ _ _ _ inv.0 _ _ _ _ c.loop-done-test.true inv.1 word c.in_default.ensures.value (c.in_default.ensures.ready inv.0.ready) in
     let at = p.1 in
     let back : c.loop-done.self.moment.tick ≡ c.step.new.self.moment.tick - 1 = omega arith in
     (p.0, word ∙ ap host back)

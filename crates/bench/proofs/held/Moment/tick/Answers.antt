@@ -5,10 +5,10 @@ use Rattle.bench.specs.Ticks.{tick_between}
 use Rattle.bench.proofs.Ticking.{finished_owed, tick_by}
 use Rattle.bench.proofs.held.Moment.tick.Goals as goal
 
-pub returns-in-err-begin : goal.returns-in-err-begin
-returns-in-err-begin c =
+pub returns-in_err-begin : goal.returns-in_err-begin
+returns-in_err-begin c =
     let p = err_from_is_err_and c.from-residual.result c.from-residual.ensures.1 in
-    rw (p.1, p.2) (record { value = tick_by c.args.image.now c.args.before c.args.word c.args.self.now _ c.in-err-begin.ensures.value; bounded = tt })
+    rw (p.1, p.2) (record { value = tick_by c.args.image.now c.args.before c.args.word c.args.self.now _ c.in_err-begin.ensures.value; bounded = tt })
 
 pub returns : goal.returns
 unfolding tick_between
@@ -17,7 +17,7 @@ returns c =
     record {
       value = search rules;
       bounded = λ b. record {
-        sound = c.finish.ensures.sound (c.in-ok-begin.ensures.sound b.sound);
-        owed = subst (λ (m : Machine). m.owed ≤ 16) (sym v) (finished_owed c.begin.new.self c.args.image.now c.args.before c.args.word (c.in-ok-begin.ensures.owed b.owed));
+        sound = c.finish.ensures.sound (c.in_ok-begin.ensures.sound b.sound);
+        owed = subst (λ (m : Machine). m.owed ≤ 16) (sym v) (finished_owed c.begin.new.self c.args.image.now c.args.before c.args.word (c.in_ok-begin.ensures.owed b.owed));
       };
     }

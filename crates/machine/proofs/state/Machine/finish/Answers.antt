@@ -21,6 +21,6 @@ returns-else-passing-2 c =
       pfdr = m.parts.pfdr;
       mode = m.parts.mode;
     })
-    c.saturating-sub-self.result c.next-prescaler-prescaler.result in
+    c.saturating_sub-self.result c.next_prescaler-prescaler.result in
     let v : out ≡ finished m c.args.image.now c.args.before c.args.at = search rules in
     record { value = v; sound = λ h. subst (λ (z : Machine). Sound z) (sym v) (finish_sound m c.args.image.now c.args.before c.args.at h) }

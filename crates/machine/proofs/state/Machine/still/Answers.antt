@@ -8,7 +8,7 @@ pub returns : goal.returns
 returns c =
     let m = c.args.self.now in
     let p = m.parts in
-    let v : c.fewer-ticks-3.result ≡ still_for m = search rules in
+    let v : c.fewer_ticks-3.result ≡ still_for m = search rules in
     let t = c.still-timers.ensures in
     let b = c.still-buzzer.ensures in
     let d = c.still-basic.ensures in
