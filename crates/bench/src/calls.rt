@@ -104,8 +104,8 @@ impl Chip {
         pins: &mut [Stretch<PinSample>],
         modes: &mut [Stretch<Mode>],
     ) -> Run
-        ensures plays { answer result.ticks result.fault self.new.held (both pins.new modes.new) ≡ played image.now (meaning host.now) grant self.old.held (both pins.old modes.old) }
-        ensures board { BoardAfter image.now (meaning host.now) self.old.held (both pins.old modes.old) grant result.ticks result.fault self.new.held (both pins.new modes.new) }
+        ensures plays { answer result.ticks result.fault self.new.held (both pins.new modes.new) ≡ played image.now (P.meaning host.now) grant self.old.held (both pins.old modes.old) }
+        ensures board { BoardAfter image.now (P.meaning host.now) self.old.held (both pins.old modes.old) grant result.ticks result.fault self.new.held (both pins.new modes.new) }
     {
         if let Some(fault) = self.held.refusal(image, grant, pins, modes) {
             return Run {
@@ -128,8 +128,8 @@ impl Chip {
         pins: &mut [Stretch<PinSample>],
         modes: &mut [Stretch<Mode>],
     ) -> Run
-        ensures plays { answer result.ticks result.fault self.new.held (both pins.new modes.new) ≡ played image.now (meaning host.now) grant self.old.held (both pins.old modes.old) }
-        ensures board { BoardAfter image.now (meaning host.now) self.old.held (both pins.old modes.old) grant result.ticks result.fault self.new.held (both pins.new modes.new) }
+        ensures plays { answer result.ticks result.fault self.new.held (both pins.new modes.new) ≡ played image.now (P.meaning host.now) grant self.old.held (both pins.old modes.old) }
+        ensures board { BoardAfter image.now (P.meaning host.now) self.old.held (both pins.old modes.old) grant result.ticks result.fault self.new.held (both pins.new modes.new) }
     {
         if let Some(fault) = self.held.refusal(image, grant, pins, modes) {
             return Run {
@@ -152,7 +152,7 @@ impl Chip {
         pins: &mut [Stretch<PinSample>],
         modes: &mut [Stretch<Mode>],
     ) -> Run
-        ensures { answer result.ticks result.fault self.new.held (both pins.new modes.new) ≡ played image.now (meaning host.now) call.grant self.old.held (both pins.old modes.old) }
+        ensures { answer result.ticks result.fault self.new.held (both pins.new modes.new) ≡ played image.now (P.meaning host.now) call.grant self.old.held (both pins.old modes.old) }
     {
         match call.way {
             Way::Ticks => self.tick_run(image, host, call.grant, pins, modes),
@@ -169,8 +169,8 @@ impl Chip {
         pins: &mut [Stretch<PinSample>],
         modes: &mut [Stretch<Mode>],
     ) -> u64
-        ensures plays { (result, self.new.held, both pins.new modes.new) ≡ played_all image.now (meaning host.now) calls.now 0 self.old.held (both pins.old modes.old) }
-        ensures stands { StandsAfter image.now (meaning host.now) self.old.held (both pins.old modes.old) result self.new.held (both pins.new modes.new) }
+        ensures plays { (result, self.new.held, both pins.new modes.new) ≡ played_all image.now (P.meaning host.now) calls.now 0 self.old.held (both pins.old modes.old) }
+        ensures stands { StandsAfter image.now (P.meaning host.now) self.old.held (both pins.old modes.old) result self.new.held (both pins.new modes.new) }
     {
         let mut total = 0;
         for call in calls {

@@ -28,7 +28,7 @@ impl Seen {
     // Only the word of the tick before is known.
     fn new<P: PinHost>(host: &P, tick: u64) -> Seen
         requires { tick ≤ 2 ^ 48 }
-        ensures { result ≡ seen (meaning host.now (tick - 1)) (meaning host.now (tick - 1)) tick }
+        ensures { result ≡ seen (P.meaning host.now (tick - 1)) (P.meaning host.now (tick - 1)) tick }
     {
         let before = host.levels(tick.saturating_sub(1));
         Seen {
@@ -41,9 +41,9 @@ impl Seen {
     // Asks the host again where its mark is reached.
     fn renew<P: PinHost>(&mut self, host: &P, tick: u64)
         requires tick { tick < 2 ^ 48 }
-        requires sees { Sees (meaning host.now) tick self.old }
-        ensures value { self.new ≡ renewed (meaning host.now) (mark host.now) tick self.old }
-        ensures sees { Sees (meaning host.now) tick self.new }
+        requires sees { Sees (P.meaning host.now) tick self.old }
+        ensures value { self.new ≡ renewed (P.meaning host.now) (P.mark host.now) tick self.old }
+        ensures sees { Sees (P.meaning host.now) tick self.new }
         ensures ahead { tick < self.new.until }
     {
         if tick >= self.until {
@@ -136,7 +136,7 @@ impl Held {
     ) -> Run
         requires time { self.old.moment.tick + grant ≤ 2 ^ 48 }
         requires ready { Ready self.old (both pins.old modes.old) }
-        ensures plays { answer result.ticks result.fault self.new (both pins.new modes.new) ≡ ran image.now (meaning host.now) grant 0 self.old (both pins.old modes.old) }
+        ensures plays { answer result.ticks result.fault self.new (both pins.new modes.new) ≡ ran image.now (P.meaning host.now) grant 0 self.old (both pins.old modes.old) }
         ensures whole { Whole self.new }
     {
         let mut seen = Seen::new(host, self.moment.tick);

@@ -65,7 +65,7 @@ impl Held {
     ) -> Run
         requires time { self.old.moment.tick + grant ≤ 2 ^ 48 }
         requires ready { Ready self.old (both pins.old modes.old) }
-        ensures plays { answer result.ticks result.fault self.new (both pins.new modes.new) ≡ ran image.now (meaning host.now) grant 0 self.old (both pins.old modes.old) }
+        ensures plays { answer result.ticks result.fault self.new (both pins.new modes.new) ≡ ran image.now (P.meaning host.now) grant 0 self.old (both pins.old modes.old) }
         ensures whole { Whole self.new }
     {
         let mut before = host.levels(self.moment.tick.saturating_sub(1));

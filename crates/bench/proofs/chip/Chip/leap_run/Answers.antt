@@ -9,5 +9,5 @@ returns-in-Some g c =
 
 pub returns : goal.returns
 returns g c =
-    let plays = c.run-leaps-run.ensures.plays ∙ sym (played_by _ _ _ _ _ _ (sym c.in_default.ensures)) in
+    let plays = c.run_leaps-run.ensures.plays ∙ sym (played_by _ _ _ _ _ _ (sym c.in_default.ensures)) in
     record { plays = plays; board = board_after _ _ _ _ _ _ _ _ _ plays }

@@ -7,8 +7,8 @@ use Rattle.bench.specs.Runs.{played_all}
 use Rattle.bench.proofs.Boards.{played_more, played_none, played_tick, stands_after}
 use Rattle.bench.proofs.chip.Chip.play.Goals as goal
 
-pub overflow-add-total : goal.overflow-add-total
-overflow-add-total g c =
+pub overflow_add-total : goal.overflow_add-total
+overflow_add-total g c =
     let up = played_tick _ _ _ _ _ _ _ _ _ c.run-total.ensures in
     let at = c.loop-call.invariant.1 in
     let most = c.run-total.new.self.tick in

@@ -10,7 +10,7 @@ use Rattle.bench.proofs.held.Held.advance.Goals as goal
 
 pub returns-in_err-begin : goal.returns-in_err-begin
 returns-in_err-begin c =
-    let p = err_from_is_err_and c.from-residual.result c.from-residual.ensures.1 in
+    let p = err_from_is_err_and c.from_residual.result c.from_residual.ensures.1 in
     let h = c.args.self.now in
     let n = c.args.seen.now in
     let e = c.in_err-begin.ensures.value in
@@ -25,8 +25,8 @@ returns-in_err-begin c =
 pub stride-quiet-requires : goal.stride-quiet-requires
 stride-quiet-requires c = c.in_ok-begin.ensures.sound c.requires.ready.whole.machine.sound
 
-pub go-on-requires : goal.go-on-requires
-go-on-requires c =
+pub go_on-requires : goal.go_on-requires
+go_on-requires c =
     let few = takes_most c.stride-quiet.result c.args.most c.stride-quiet.ensures.longest.granted c.requires.some in
     omega (arith, c.requires.time)
 
@@ -37,7 +37,7 @@ returns-in_err-add c =
     let n = c.args.seen.now in
     let begun = c.in_ok-begin.ensures in
     let k = c.stride-quiet.ensures in
-    let s = advance_stops c.args.image.now n c.args.most h (both c.args.pins.now c.args.modes.now) c.begin.new.self begun.value c.stride-quiet.result k.value c.ticks-of-ticks.result c.ticks-of-ticks.ensures c.samples-samples.result c.samples-samples.ensures _ _ _ c.in_err-add.ensures in
+    let s = advance_stops c.args.image.now n c.args.most h (both c.args.pins.now c.args.modes.now) c.begin.new.self begun.value c.stride-quiet.result k.value c.ticks_of-ticks.result c.ticks_of-ticks.ensures c.samples-samples.result c.samples-samples.ensures _ _ _ c.in_err-add.ensures in
     rw (p.1, p.2) (record {
       value = s.0;
       takes = tt;
@@ -52,15 +52,15 @@ returns c =
     let n = c.args.seen.now in
     let begun = c.in_ok-begin.ensures in
     let k = c.stride-quiet.ensures in
-    let all = c.ticks-of-ticks.ensures in
+    let all = c.ticks_of-ticks.ensures in
     let few = takes_most c.stride-quiet.result c.args.most k.longest.granted c.requires.some in
     let some = takes_some c.stride-quiet.result in
     let time = c.requires.time in
     let acted = bounded_by h.moment.machine c.begin.new.self _ begun.value c.requires.ready.whole.machine begun.sound begun.owed in
-    let s = advance_goes c.args.image.now n c.args.most h (both c.args.pins.now c.args.modes.now) c.begin.new.self begun.value c.stride-quiet.result k.value c.ticks-of-ticks.result all c.samples-samples.result c.samples-samples.ensures _ _ c.go-on.new.self c.go-on.ensures.value (omega arith) (omega arith) (λ b. c.go-on.ensures.bounded (record { sound = begun.sound b.sound; owed = begun.owed b.owed })) c.in_ok-add.ensures in
+    let s = advance_goes c.args.image.now n c.args.most h (both c.args.pins.now c.args.modes.now) c.begin.new.self begun.value c.stride-quiet.result k.value c.ticks_of-ticks.result all c.samples-samples.result c.samples-samples.ensures _ _ c.go_on.new.self c.go_on.ensures.value (omega arith) (omega arith) (λ b. c.go_on.ensures.bounded (record { sound = begun.sound b.sound; owed = begun.owed b.owed })) c.in_ok-add.ensures in
     record {
       value = s.0;
-      takes = reach_by n c.args.most h.moment.tick _ c.begin.new.self c.stride-quiet.result c.ticks-of-ticks.result begun.value k.value all;
+      takes = reach_by n c.args.most h.moment.tick _ c.begin.new.self c.stride-quiet.result c.ticks_of-ticks.result begun.value k.value all;
       longest = reaches_by n c.args.most h.moment.tick _ c.begin.new.self c.stride-quiet.result begun.value k.value k.longest;
       bounded = acted;
       ready = s.1 c.requires.ready;

@@ -26,8 +26,8 @@ advance-requires g c = record { some = omega arith; time = c.loop-done.invariant
 went : (g : given.Over) (c : goal.In-Ok g) → Went c.args.image.now (g.P.PinHost.meaning c.args.host.now) c.args.grant c.args.self.now (both c.args.pins.now c.args.modes.now) c.loop-done.done c.loop-done.self (both c.loop-done.pins c.loop-done.modes) c.loop-done.invariant.0 c.renew.new.self c.renew.ensures.sees c.renew.ensures.ahead c.loop-done-test.true c.in-Ok.ensures.longest c.in-Ok.ensures.bounded c.in-Ok.ticks c.advance.new.self (both c.advance.new.pins c.advance.new.modes)
 went g c = let e = c.in-Ok.ensures in moves_on _ _ _ _ _ _ _ _ c.loop-done.invariant.0 _ c.renew.ensures.sees c.renew.ensures.ahead c.loop-done-test.true e.longest e.bounded _ _ _ e.takes e.value e.ready
 
-pub overflow-add-done : goal.overflow-add-done
-overflow-add-done g c = omega (arith, (went g c).granted)
+pub overflow_add-done : goal.overflow_add-done
+overflow_add-done g c = omega (arith, (went g c).granted)
 
 pub loop-done-smaller : goal.loop-done-smaller
 loop-done-smaller g c = omega (arith, (went g c).granted, (went g c).some)

@@ -5,10 +5,10 @@ use Rattle.bench.proofs.held.Held.run_ticks.Goals as goal
 pub loop-done-init : goal.loop-done-init
 loop-done-init g c =
     let host = g.P.PinHost.meaning c.args.host.now in
-    let before = c.saturating-sub.ensures in
+    let before = c.saturating_sub.ensures in
     let tick = c.requires.ready.whole.tick in (
       running_begins _ _ _ _ _ c.requires.time c.requires.ready,
-      c.levels-before.ensures ∙ level c.args.image.now host c.saturating-sub.result (omega arith) ∙ ap host before,
+      c.levels-before.ensures ∙ level c.args.image.now host c.saturating_sub.result (omega arith) ∙ ap host before,
     )
 
 pub returns-in-Err : goal.returns-in-Err

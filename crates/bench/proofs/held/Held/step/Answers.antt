@@ -5,7 +5,7 @@ use Rattle.bench.proofs.held.Held.step.Goals as goal
 
 pub returns-in_err-samples : goal.returns-in_err-samples
 returns-in_err-samples c =
-    let p = err_from_is_err_and c.from-residual.result c.from-residual.ensures.1 in
+    let p = err_from_is_err_and c.from_residual.result c.from_residual.ensures.1 in
     rw (p.1, p.2) (record { value = step_faults c.args.image.now c.args.before c.args.word c.args.self.now (both c.args.pins.now c.args.modes.now) _ c.in_err-samples.ensures.value; ready = λ r. r })
 
 pub returns-in_err-add : goal.returns-in_err-add

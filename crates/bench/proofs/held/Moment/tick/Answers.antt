@@ -7,7 +7,7 @@ use Rattle.bench.proofs.held.Moment.tick.Goals as goal
 
 pub returns-in_err-begin : goal.returns-in_err-begin
 returns-in_err-begin c =
-    let p = err_from_is_err_and c.from-residual.result c.from-residual.ensures.1 in
+    let p = err_from_is_err_and c.from_residual.result c.from_residual.ensures.1 in
     rw (p.1, p.2) (record { value = tick_by c.args.image.now c.args.before c.args.word c.args.self.now _ c.in_err-begin.ensures.value; bounded = tt })
 
 pub returns : goal.returns
