@@ -1,10 +1,9 @@
 -- What is known of every chip that has had only runs since power-on.
-use Rattle.std.proofs.Common.{◌≡◌, ℕ, zero, suc, ◌+◌, ◌-◌, ◌^◌, ◌<◌, ◌≤◌, Bool, true, false, cond, eqb, leb, List, [], ◌∷◌, length, Some, None, Ok, Err, Option, Result, sym, refl, ap, ◌∙◌, subst, ap₂, arith}
-use Rattle.std.proofs.lemmas.Bool.{leb-true, cases_Bool}
+use Rattle.std.proofs.Common.{◌≡◌, ℕ, zero, suc, ◌+◌, ◌-◌, ◌<◌, Bool, true, false, cond, leb, List, [], ◌∷◌, Some, None, Ok, Err, Option, Result, sym, refl, ap, ◌∙◌, subst, ap₂, arith}
+use Rattle.std.proofs.lemmas.Bool.{leb-true}
 use Rattle.faults.specs.declared.Fault.{Fault}
 use Rattle.faults.specs.declared.Fault.TheVariants.{NoPinPlace, NoModePlace}
 use Rattle.recorder.specs.Samples.{pin_kind, mode_kind}
-use Rattle.recorder.specs.Charts.{fitting}
 use Rattle.recorder.proofs.Filling.{shows}
 use Rattle.bus.specs.Outcomes.{bind}
 use Rattle.bench.specs.declared.held.Samples.{Samples}
@@ -16,12 +15,12 @@ use Rattle.bench.specs.Charting.{Charts}
 use Rattle.bench.specs.Runs.{held, stepped, Ran, ran, answer, first_failed, tests, refused, unless_refused, played, played_all}
 use Rattle.bench.specs.Power.{Start, start, powered_machine}
 use Rattle.bench.specs.Model.{Places, rows, Model, model, in_places, grown, next, after}
-use Rattle.bench.specs.Board.{Since, began, ran_on, Alike, Modelled, Ended, Standing, Board, BoardAfter, StandsAfter}
+use Rattle.bench.specs.Board.{Since, began, ran_on, Alike, Modelled, Ended, Standing, BoardAfter, StandsAfter}
 use Rattle.bench.proofs.Ticking.{tick_after}
 use Rattle.bench.proofs.Stepping.{step_tick}
 use Rattle.bench.proofs.Running.{ran_by, ran_none}
 use Rattle.bench.proofs.Drawing.{draws_alike}
-use Rattle.bench.proofs.Following.{Follows, follows_begin, after_next, RanOn, ran_on_lem}
+use Rattle.bench.proofs.Following.{Follows, follows_begin, after_next, ran_on_lem}
 
 -- a call by its refusal
 pub played_by : (image : List ℕ) (host : ℕ → ℕ) (grant : ℕ) (h : Held) (c : Charts) (o : Option Fault) → refused image grant h c ≡ o → played image host grant h c ≡ unless_refused o (ran image host grant 0 h c) h c

@@ -1,11 +1,11 @@
 -- The chart of a list of samples, for any kind of sample.
-use Rattle.std.proofs.Common.{◌≡◌, ℕ, zero, suc, ◌+◌, ◌-◌, ◌^◌, ◌<◌, ◌≤◌, Bool, true, false, cond, ◌&&◌, eqb, ltb, leb, List, [], ◌∷◌, length, get_or, take, set, Some, None, Option, sym, refl, ap, ◌∙◌, subst, inl, inr, arith, length-set, get_or-set_other}
+use Rattle.std.proofs.Common.{◌≡◌, ℕ, zero, suc, ◌+◌, ◌-◌, ◌^◌, ◌<◌, ◌≤◌, Bool, true, false, cond, ◌&&◌, eqb, ltb, leb, List, [], ◌∷◌, length, take, set, Some, None, Option, sym, refl, ap, ◌∙◌, subst, inl, inr, arith, get_or-set_other}
 use Rattle.std.proofs.lemmas.List.{get_or-set_same}
 use Rattle.std.proofs.lemmas.Bool.{eq-eqb, ne_eqb, le-leb, lt-leb, lt-ltb, le-ltb, cases_eq, and_left, both_ways}
 use Rattle.recorder.specs.declared.stretch.Stretch.{Stretch}
 use Rattle.recorder.specs.Kinds.{Kind}
 use Rattle.recorder.specs.Charts.{stretch, longer, place, end_of, Fit, goes_on, appended}
-use Rattle.recorder.proofs.Appending.{Way, none, grows, begins, unfit, full, way, room_true, Placed, placed}
+use Rattle.recorder.proofs.Appending.{none, grows, begins, unfit, full, way, room_true, placed}
 use Rattle.bench.specs.Model.{same, rows}
 
 abbrev Answer : Type 0 → Type 0

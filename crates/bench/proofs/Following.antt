@@ -1,5 +1,5 @@
 -- A chip that stands where the plain model stands.
-use Rattle.std.proofs.Common.{◌≡◌, ℕ, zero, suc, ◌+◌, ◌-◌, ◌^◌, ◌<◌, ◌≤◌, Bool, true, false, cond, leb, List, [], ◌∷◌, Some, None, Ok, Err, Option, Result, sym, refl, ap, ◌∙◌, subst, ap₂, arith}
+use Rattle.std.proofs.Common.{◌≡◌, ℕ, zero, suc, ◌+◌, ◌-◌, ◌^◌, ◌≤◌, Bool, true, false, cond, leb, List, [], ◌∷◌, Some, None, Ok, Err, Option, Result, sym, refl, ap, ◌∙◌, subst, ap₂, arith}
 use Rattle.faults.specs.declared.Fault.{Fault}
 use Rattle.faults.specs.declared.Fault.TheVariants.{NoPinPlace, NoModePlace}
 use Rattle.recorder.specs.declared.stretch.Stretch.{Stretch}
@@ -11,11 +11,10 @@ use Rattle.recorder.specs.Histories.{Recorded, began, added}
 use Rattle.bus.specs.Outcomes.{bind}
 use Rattle.bench.specs.declared.held.Samples.{Samples}
 use Rattle.bench.specs.declared.held.Moment.{Moment}
-use Rattle.bench.specs.declared.held.Stretches.{Stretches}
 use Rattle.bench.specs.declared.held.Held.{Held}
 use Rattle.bench.specs.Ticks.{ticked}
 use Rattle.bench.specs.Charting.{Charts, both, counted, placed, charted}
-use Rattle.bench.specs.Runs.{held, stepped, Ran, answer, unless_stopped, ran}
+use Rattle.bench.specs.Runs.{held, stepped, Ran, ran}
 use Rattle.bench.specs.Power.{Start, powered}
 use Rattle.bench.specs.Model.{Places, sizes, rows, Model, model, in_places, grown, next, after, newest_pins, pins_taken, newest_mode, mode_taken}
 use Rattle.bench.specs.Board.{StopsAfter, Ended}

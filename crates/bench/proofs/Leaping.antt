@@ -1,6 +1,6 @@
 -- A leap is its ticks, one by one.
-use Rattle.std.proofs.Common.{◌≡◌, ℕ, zero, suc, ◌+◌, ◌-◌, ◌^◌, ◌<◌, ◌≤◌, Bool, true, false, cond, eqb, List, length, IfOk, Some, None, Ok, Err, Option, Result, sym, refl, ap, ◌∙◌, subst, ap₂, inl, inr, arith}
-use Rattle.std.proofs.lemmas.Bool.{cond-true, cond-false, eq-eqb, ne_eqb, cases_lt, cases_eq}
+use Rattle.std.proofs.Common.{◌≡◌, ℕ, zero, suc, ◌+◌, ◌-◌, ◌^◌, ◌<◌, ◌≤◌, List, IfOk, Some, None, Ok, Err, Option, Result, sym, refl, ap, ◌∙◌, subst, ap₂, inl, inr, arith}
+use Rattle.std.proofs.lemmas.Bool.{eq-eqb, ne_eqb, cases_lt}
 use Rattle.faults.specs.declared.Fault.{Fault}
 use Rattle.recorder.specs.declared.stretch.Stretch.{Stretch}
 use Rattle.recorder.specs.declared.pin_sample.PinSample.{PinSample}
@@ -21,7 +21,7 @@ use Rattle.bench.specs.declared.held.Held.{Held}
 use Rattle.bench.specs.declared.leap.Seen.{Seen}
 use Rattle.bench.specs.Ticks.{moment, samples_of, tick_between}
 use Rattle.bench.specs.Charting.{Charts, both, counted, placed, charted, left}
-use Rattle.bench.specs.Runs.{held, step_between, stepped, Ran, answer, ran}
+use Rattle.bench.specs.Runs.{held, step_between, stepped, answer, ran}
 use Rattle.bench.specs.Keeps.{Bounded, Whole, Ready}
 use Rattle.bench.specs.Leaps.{seen, Sees, stride, Stride, takes, onward, moved_on, advanced, reach, Reaches}
 use Rattle.bench.proofs.Ticking.{tick_by}

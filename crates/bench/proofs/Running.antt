@@ -1,11 +1,11 @@
 -- A run as its ticks, one by one.
-use Rattle.std.proofs.Common.{◌≡◌, ℕ, zero, suc, ◌+◌, ◌-◌, ◌^◌, ◌<◌, ◌≤◌, true, ltb, List, Some, None, Ok, Err, Option, Result, sym, refl, ap, ◌∙◌, subst, ap₂, arith}
+use Rattle.std.proofs.Common.{◌≡◌, ℕ, zero, suc, ◌+◌, ◌-◌, ◌^◌, ◌<◌, ◌≤◌, ltb, List, Some, None, Ok, Err, Result, sym, refl, ap, ◌∙◌, subst, ap₂, arith}
 use Rattle.std.proofs.lemmas.Bool.{cond-true, lt-ltb}
 use Rattle.faults.specs.declared.Fault.{Fault}
 use Rattle.hosts.specs.Marks.{level_at}
 use Rattle.bench.specs.declared.held.Held.{Held}
 use Rattle.bench.specs.Charting.{Charts, left}
-use Rattle.bench.specs.Runs.{step_between, stepped, Ran, answer, unless_stopped, ran}
+use Rattle.bench.specs.Runs.{step_between, stepped, answer, unless_stopped, ran}
 use Rattle.bench.specs.Keeps.{Whole, Ready}
 use Rattle.bench.proofs.Stepping.{left_ok, left_err, step_tick}
 

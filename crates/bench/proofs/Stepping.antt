@@ -5,7 +5,7 @@ use Rattle.recorder.specs.declared.stretch.Stretch.{Stretch}
 use Rattle.recorder.specs.declared.pin_sample.PinSample.{PinSample}
 use Rattle.recorder.specs.declared.mode.Mode.{Mode}
 use Rattle.recorder.specs.Samples.{pin_kind, mode_kind}
-use Rattle.recorder.specs.Charts.{appended, Fit}
+use Rattle.recorder.specs.Charts.{appended}
 use Rattle.recorder.proofs.Appending.{Placed, placed}
 use Rattle.bus.specs.Outcomes.{bind}
 use Rattle.bench.specs.declared.held.Samples.{Samples}
@@ -17,7 +17,7 @@ use Rattle.bench.specs.Charting as charting
 use Rattle.bench.specs.Charting.{Charts, both, counted, charted, left}
 use Rattle.bench.specs.Runs.{held, step_between}
 use Rattle.bench.proofs.Ticking.{tick_after}
-use Rattle.bench.specs.Keeps.{Bounded, Whole, Ready}
+use Rattle.bench.specs.Keeps.{Bounded, Ready}
 
 -- what is known from a call's answer and what it left
 pub left_ok : {S : Type 0} (o : Result S Fault) (s old : S) → (Ok tt, s) ≡ left o old → o ≡ Ok s

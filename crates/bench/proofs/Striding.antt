@@ -1,9 +1,8 @@
 -- How far a move goes.
-use Rattle.std.proofs.Common.{◌≡◌, ℕ, ◌+◌, ◌-◌, ◌^◌, ◌<◌, ◌≤◌, min, cond, eqb, List, [], Some, None, Ok, Err, Option, Result, sym, ap, ◌∙◌, arith}
+use Rattle.std.proofs.Common.{◌≡◌, ℕ, ◌-◌, min, eqb, [], Some, None, Option, sym, ap, ◌∙◌, arith}
 use Rattle.std.proofs.lemmas.Bool.{cond-true, eq-eqb}
-use Rattle.faults.specs.declared.Fault.{Fault}
 use Rattle.machine.specs.declared.state.Machine.{Machine}
-use Rattle.machine.specs.Quiet.{still_for, moved, Spans, Span}
+use Rattle.machine.specs.Quiet.{still_for, moved, Span}
 use Rattle.bench.specs.declared.held.Moment.{Moment}
 use Rattle.bench.specs.declared.leap.Seen.{Seen}
 use Rattle.bench.specs.Leaps.{cut, stride, Stride}

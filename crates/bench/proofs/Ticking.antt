@@ -1,5 +1,5 @@
 -- What a tick keeps of a machine.
-use Rattle.std.proofs.Common.{◌≡◌, ℕ, ◌+◌, ◌-◌, ◌≤◌, Bool, List, Ok, Err, Result, ap, arith}
+use Rattle.std.proofs.Common.{◌≡◌, ℕ, ◌+◌, ◌-◌, ◌≤◌, List, Ok, Err, Result, ap, arith}
 use Rattle.std.proofs.lemmas.Bool.{cond_both}
 use Rattle.faults.specs.declared.Fault.{Fault}
 use Rattle.bus.specs.Outcomes.{bind}

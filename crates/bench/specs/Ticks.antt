@@ -1,5 +1,5 @@
 -- One tick of a chip, from its machine's three steps.
-use Rattle.std.specs.Prelude.{ℕ, ◌+◌, ◌-◌, List, Ok, Err, Result}
+use Rattle.std.specs.Prelude.{ℕ, ◌+◌, ◌-◌, List, Ok, Result}
 use Rattle.faults.specs.declared.Fault.{Fault}
 use Rattle.bus.specs.Outcomes.{bind}
 use Rattle.machine.specs.declared.state.Machine.{Machine}

@@ -1,5 +1,5 @@
 -- Codes, operands and addresses.
-use Rattle.std.specs.Prelude.{ℕ, ◌+◌, ◌-◌, ◌*◌, ◌/◌, ◌%◌, Bool, cond, List, Ok, Err, Result, nat_le, nat_lt, slice_index}
+use Rattle.std.specs.Prelude.{ℕ, ◌+◌, ◌-◌, ◌*◌, ◌/◌, ◌%◌, cond, List, Ok, Err, Result, nat_le, nat_lt, slice_index}
 use Rattle.faults.specs.declared.Fault.{Fault}
 use Rattle.faults.specs.declared.Fault.TheVariants.{Unoccupied}
 use Rattle.sheet.specs.declared.operation.Place.{Place}

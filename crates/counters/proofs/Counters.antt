@@ -1,8 +1,8 @@
 -- A counter modulo M on a divider 2^s, for every M and s.
-use Rattle.std.proofs.Common.{◌≡◌, ℕ, ◌+◌, ◌-◌, ◌*◌, ◌/◌, ◌%◌, ◌^◌, ◌<◌, ◌≤◌, Bool, true, false, cond, ◌&&◌, eqb, ◌⊎◌, sym, refl, ap, ◌∙◌, subst, inl, inr, mod-lt, mod-eq_of_lt, arith}
+use Rattle.std.proofs.Common.{◌≡◌, ℕ, ◌+◌, ◌-◌, ◌%◌, ◌^◌, ◌<◌, ◌≤◌, Bool, true, false, cond, ◌&&◌, eqb, ◌⊎◌, sym, refl, ap, ◌∙◌, inl, inr, mod-eq_of_lt, arith}
 use native.Mathlib.Nat.{mod-eq-sub-mod, mod-add-mod}
 use Rattle.std.proofs.lemmas.Bool.{eqb-true, eqb-false, eq-eqb, ne_eqb, and_from, cases_lt}
-use Rattle.counters.specs.Counting.{pulse, counted, pulses_in, run_on, gap, before_pulse, still_for}
+use Rattle.counters.specs.Counting.{pulse, counted, pulses_in, run_on, gap, still_for}
 use Rattle.counters.specs.Quiet.{prescaled}
 use Rattle.counters.proofs.Dividers.{more_pulse, same_pulse, no_pulse, wrapped, pulses_before, pulse_after}
 

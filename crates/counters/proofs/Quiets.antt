@@ -1,7 +1,7 @@
 -- How long the timers, the buzzer and the basic timer only run on.
-use Rattle.std.proofs.Common.{◌≡◌, ℕ, ◌+◌, ◌-◌, ◌/◌, ◌%◌, ◌^◌, ◌<◌, ◌≤◌, Bool, true, false, cond, not, ◌&&◌, eqb, ltb, List, [], ◌∷◌, length, get_or, set, Some, None, Option, sym, refl, ap, ◌∙◌, subst, ap₂, inl, inr, mod-lt, arith}
+use Rattle.std.proofs.Common.{◌≡◌, ℕ, ◌+◌, ◌%◌, ◌<◌, ◌≤◌, Bool, true, false, cond, not, ◌&&◌, eqb, List, [], ◌∷◌, length, get_or, set, Some, None, Option, sym, refl, ap, ◌∙◌, subst, ap₂, inl, inr, mod-lt, arith}
 use Rattle.std.proofs.lemmas.List.{set-get_or}
-use Rattle.std.proofs.lemmas.Bool.{both_ways, cases_lt, lt-ltb, le-ltb, and_parts}
+use Rattle.std.proofs.lemmas.Bool.{both_ways, cases_lt, lt-ltb, le-ltb}
 use Rattle.recorder.specs.declared.mode.Mode.{Mode}
 use Rattle.recorder.specs.declared.mode.Mode.TheVariants.{Running, WakeUpTimer, Stopped}
 use Rattle.counters.specs.declared.timer.Source.{Source}
@@ -12,11 +12,11 @@ use Rattle.counters.specs.declared.timer.Matches.{Matches}
 use Rattle.counters.specs.declared.buzzer.Buzzer.{Buzzer}
 use Rattle.counters.specs.declared.basic.BasicTimer.{BasicTimer}
 use Rattle.counters.specs.declared.basic.Passing.{Passing}
-use Rattle.counters.specs.Counting.{awake, flip, pulse, counted, run_on, still_for, fewer}
-use Rattle.counters.specs.Timers.{Sane, timer, drive0, drive1, source0, source1, pulses, timer_ticked, timer_moved, timer_still, at, of0, of1, timers_ticked, timers_moved, timers_still}
+use Rattle.counters.specs.Counting.{flip, pulse, counted, run_on, fewer}
+use Rattle.counters.specs.Timers.{Sane, timer, drive0, drive1, source0, source1, pulses, timer_ticked, timer_moved, timer_still, at, of0, of1, timers_moved, timers_still}
 use Rattle.counters.specs.Buzzers.{buzzer, buzzer_shift, buzzer_limit, buzzer_moved, buzzer_still}
 use Rattle.counters.specs.Basic.{basic, basic_shift, basic_moved, basic_still}
-use Rattle.counters.specs.Quiet.{prescaled, Within, Longest, TimerQuiet, TimersQuiet, BuzzerQuiet, BasicQuiet}
+use Rattle.counters.specs.Quiet.{prescaled, Longest, TimerQuiet, TimersQuiet, BuzzerQuiet, BasicQuiet}
 use Rattle.counters.proofs.Counters.{run_none, no_match, runs_on, matches}
 
 pub never : {X : Type 0} {j : ℕ} → None ≡ Some j → X

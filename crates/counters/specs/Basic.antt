@@ -1,5 +1,5 @@
 -- The basic interval timer and the watchdog that it steps.
-use Rattle.std.specs.Prelude.{ℕ, ◌+◌, ◌/◌, ◌%◌, Bool, true, false, cond, ◌&&◌, Some, None, Option, ◌==◌, bit_and}
+use Rattle.std.specs.Prelude.{ℕ, ◌+◌, ◌%◌, Bool, cond, ◌&&◌, Some, None, Option, ◌==◌, bit_and}
 use Rattle.recorder.specs.declared.mode.Mode.{Mode}
 use Rattle.counters.specs.declared.basic.BasicTimer.{BasicTimer}
 use Rattle.counters.specs.declared.basic.Passing.{Passing}

@@ -1,5 +1,5 @@
 -- The buzzer.
-use Rattle.std.specs.Prelude.{ℕ, ◌+◌, ◌/◌, ◌%◌, Bool, true, false, cond, not, ◌&&◌, Some, None, Option, ◌==◌}
+use Rattle.std.specs.Prelude.{ℕ, ◌+◌, ◌/◌, ◌%◌, Bool, false, cond, ◌&&◌, Some, None, Option, ◌==◌}
 use Rattle.recorder.specs.declared.mode.Mode.{Mode}
 use Rattle.counters.specs.declared.buzzer.Buzzer.{Buzzer}
 use Rattle.counters.specs.Counting.{awake, flip, pulse, counted, run_on, still_for}

@@ -4,10 +4,8 @@ use Rattle.recorder.specs.declared.mode.Mode.{Mode}
 use Rattle.counters.specs.declared.timer.Source.{Source}
 use Rattle.counters.specs.declared.timer.Timer.{Timer}
 use Rattle.counters.specs.declared.timer.Timers.{Timers}
-use Rattle.counters.specs.declared.timer.Matches.{Matches}
 use Rattle.counters.specs.declared.buzzer.Buzzer.{Buzzer}
 use Rattle.counters.specs.declared.basic.BasicTimer.{BasicTimer}
-use Rattle.counters.specs.declared.basic.Passing.{Passing}
 use Rattle.counters.specs.Timers.{pulses, timer_ticked, timer_moved, timers_ticked, timers_moved}
 use Rattle.counters.specs.Buzzers.{buzzer_ticked, buzzer_moved}
 use Rattle.counters.specs.Basic.{basic_ticked, basic_moved}

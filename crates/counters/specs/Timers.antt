@@ -1,5 +1,5 @@
 -- Timer 0 and Timer 1.
-use Rattle.std.specs.Prelude.{ℕ, ◌+◌, ◌/◌, ◌%◌, ◌≤◌, Bool, true, false, cond, ◌&&◌, List, [], ◌∷◌, set, Some, None, Option, ◌==◌, slice_index_or, slice_set}
+use Rattle.std.specs.Prelude.{ℕ, ◌/◌, ◌%◌, ◌≤◌, Bool, false, cond, ◌&&◌, [], ◌∷◌, Some, None, Option, ◌==◌, slice_index_or, slice_set}
 use Rattle.recorder.specs.declared.mode.Mode.{Mode}
 use Rattle.recorder.specs.declared.mode.Mode.TheVariants.{Running, WakeUpTimer, Stopped}
 use Rattle.counters.specs.declared.timer.Timer.{Timer}

@@ -1,9 +1,8 @@
 -- The laws of the flags and the stack pointer.
-use Rattle.std.proofs.Common.{◌≡◌, ℕ, ◌+◌, ◌-◌, ◌*◌, ◌%◌, ◌<◌, ◌≤◌, Bool, true, false, not, ◌&&◌, eqb, ltb, leb, sym, refl, ap, ◌∙◌, arith}
+use Rattle.std.proofs.Common.{◌≡◌, ℕ, ◌+◌, ◌-◌, ◌*◌, ◌%◌, ◌<◌, Bool, true, false, not, eqb, leb, ap, arith}
 use Rattle.std.proofs.lemmas.Bool.Decides.{nat_tests}
-use Rattle.cpu.specs.declared.registers.Registers.{Registers}
-use Rattle.cpu.specs.State.{bit, pushed, pulled, with_sp, same}
-use Rattle.cpu.specs.Effects.{added, compared, high}
+use Rattle.cpu.specs.State.{bit, with_sp}
+use Rattle.cpu.specs.Effects.{added}
 use Rattle.cpu.specs.Laws.{Laws, lifted, fits_signed}
 
 -- a number below 512 by its byte and what is carried out

@@ -7,7 +7,6 @@ use Rattle.sheet.specs.declared.operation.ShiftOp.TheVariants.{Asl, Rol, Lsr, Ro
 use Rattle.sheet.specs.declared.operation.Transfer.{Transfer}
 use Rattle.sheet.specs.declared.operation.Transfer.TheVariants.{Txa, Tax, Tya, Tay, Txsp, Tspx}
 use Rattle.sheet.specs.declared.operation.Index.{Index}
-use Rattle.cpu.specs.declared.registers.Flags.{Flags}
 use Rattle.cpu.specs.declared.registers.Registers.{Registers}
 use Rattle.cpu.specs.declared.sum.Sum.{Sum}
 use Rattle.cpu.specs.State.{with_a, with_x, with_y, with_sp, with_flags, with_c, with_index, index_of, bit, same, packed, cleared}

@@ -1,5 +1,5 @@
 -- What each kind of operation does to the chip's parts. `pc` is the program counter that a fault names.
-use Rattle.std.specs.Prelude.{ℕ, ◌+◌, ◌-◌, ◌*◌, ◌/◌, ◌%◌, Bool, true, false, cond, not, List, Ok, Err, Result, ◌==◌, bit_and, bit_or}
+use Rattle.std.specs.Prelude.{ℕ, ◌+◌, ◌-◌, ◌*◌, ◌/◌, ◌%◌, Bool, cond, not, List, Ok, Result, ◌==◌, bit_and, bit_or}
 use Rattle.faults.specs.declared.Fault.{Fault}
 use Rattle.recorder.specs.declared.mode.Mode.{Mode}
 use Rattle.recorder.specs.declared.mode.Mode.TheVariants.{WakeUpTimer, Stopped}
@@ -18,9 +18,9 @@ use Rattle.sheet.specs.declared.operation.Operand.{Operand}
 use Rattle.sheet.specs.Rule.{mask_of}
 use Rattle.cpu.specs.declared.registers.Registers.{Registers}
 use Rattle.cpu.specs.State.{with_pc, same, flag_of, index_of, byte_of, restored, jumped, broken, switched, packed, unpacked, with_flags}
-use Rattle.cpu.specs.Effects.{calculated, compared, index_loaded, shifted, shifted_a, shifted_index, raised_x, lowered_y}
+use Rattle.cpu.specs.Effects.{calculated, compared, index_loaded, shifted, shifted_a, shifted_index, lowered_y}
 use Rattle.bus.specs.declared.parts.Parts.{Parts}
-use Rattle.bus.specs.With.{parts_with_registers, parts_with_mode}
+use Rattle.bus.specs.With.{parts_with_registers}
 use Rattle.bus.specs.Outcomes.{bind}
 use Rattle.bus.specs.Registers.{image_word, read_at, written_at}
 use Rattle.bus.specs.Fetch.{fetched, word_fetched, direct, addressed, operand_of, byte_pushed, byte_pulled, word_pushed, word_pulled}

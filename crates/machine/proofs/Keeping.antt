@@ -1,5 +1,5 @@
 -- A tick keeps what every machine keeps.
-use Rattle.std.proofs.Common.{◌≡◌, ℕ, ◌+◌, ◌-◌, ◌*◌, ◌/◌, ◌%◌, ◌<◌, ◌≤◌, Bool, true, false, cond, not, eqb, leb, List, IfOk, Ok, Err, Result, sym, refl, ap, ◌∙◌, subst, mod-lt, arith, lit<}
+use Rattle.std.proofs.Common.{◌≡◌, ℕ, ◌+◌, ◌-◌, ◌/◌, ◌%◌, ◌<◌, Bool, true, false, cond, not, eqb, leb, List, IfOk, Ok, Err, Result, sym, subst, mod-lt, lit<}
 use lib.Bits.{bit_and}
 use Rattle.std.proofs.lemmas.Bool.{cond_both}
 use Rattle.faults.specs.declared.Fault.{Fault}
@@ -15,7 +15,6 @@ use Rattle.sheet.specs.declared.operation.Target.TheVariants as tg
 use Rattle.sheet.specs.declared.operation.Branch.{Branch}
 use Rattle.sheet.specs.declared.operation.Branch.TheVariants as br
 use Rattle.sheet.specs.declared.operation.Bit.{Bit}
-use Rattle.sheet.specs.declared.operation.Index.{Index}
 use Rattle.sheet.specs.declared.operation.Place.{Place}
 use Rattle.sheet.specs.declared.operation.Place.TheVariants.{Dp, DpX, Abs, AtX, AbsY, IndX, IndY}
 use Rattle.sheet.specs.declared.operation.Operand.{Operand}
@@ -24,13 +23,13 @@ use Rattle.sheet.specs.declared.operation.Operation.{Operation}
 use Rattle.sheet.specs.declared.operation.Operation.TheVariants as op
 use Rattle.bus.specs.declared.parts.Parts.{Parts}
 use Rattle.bus.specs.Outcomes.{after, bind}
-use Rattle.bus.specs.Registers.{read_at, register_written, written_at}
-use Rattle.bus.specs.Fetch.{fetched, word_fetched, direct, pointer_at, addressed, operand_of, byte_pushed, byte_pulled, word_pushed, word_pulled}
+use Rattle.bus.specs.Registers.{register_written, written_at}
+use Rattle.bus.specs.Fetch.{fetched, word_fetched, direct, addressed, operand_of, byte_pushed, byte_pulled, word_pushed, word_pulled}
 use Rattle.cpu.specs.declared.registers.Registers.{Registers}
 use Rattle.cpu.specs.State.{broken, same}
 use Rattle.cpu.specs.Effects.{lowered_y}
 use Rattle.bus.specs.With.{parts_with_registers, parts_with_requests}
-use Rattle.instructions.specs.Operations.{by, calculated_with, loaded_with, compared_with, stored_a, stored_index, number_stored, shifted_at, has_mask, bit_put, jumped_if, branched, branched_on, pushed_saved, popped_saved, called_at, called, page_called, table_called, interrupted, broke, returned, returned_from_interrupt}
+use Rattle.instructions.specs.Operations.{by, calculated_with, stored_a, shifted_at, has_mask, bit_put, jumped_if, branched, branched_on, called_at, interrupted}
 use Rattle.instructions.specs.Execute.{plain, executed, instructed}
 use Rattle.ports.specs.Requests.{vector_of, accepted}
 use Rattle.machine.specs.declared.state.Machine.{Machine}

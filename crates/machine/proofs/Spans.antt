@@ -1,9 +1,9 @@
 -- The quiet span of a machine, from those of its counters.
-use Rattle.std.proofs.Common.{◌≡◌, ℕ, zero, suc, ◌+◌, ◌-◌, ◌/◌, ◌%◌, ◌<◌, ◌≤◌, Bool, true, false, cond, not, ◌&&◌, ◌||◌, eqb, List, Some, None, Ok, Err, Option, Result, sym, refl, ap, ◌∙◌, subst, ap₂, mod-eq_of_lt, arith}
+use Rattle.std.proofs.Common.{◌≡◌, ℕ, zero, suc, ◌+◌, ◌-◌, ◌/◌, ◌%◌, ◌<◌, Bool, true, false, cond, not, ◌&&◌, ◌||◌, eqb, List, Some, None, Ok, Option, Result, sym, refl, ap, ◌∙◌, ap₂, mod-eq_of_lt, arith}
 use native.Mathlib.Nat.{mod-add-mod}
 use lib.Bits.{bit_or}
 use Rattle.std.proofs.lemmas.Nat.{or_comm}
-use Rattle.std.proofs.lemmas.Bool.{both_ways, and_right, eq-eqb, ne_eqb, cond-true, cond-false}
+use Rattle.std.proofs.lemmas.Bool.{and_right, eq-eqb, ne_eqb, cond-false}
 use Rattle.faults.specs.declared.Fault.{Fault}
 use Rattle.recorder.specs.declared.mode.Mode.{Mode}
 use Rattle.recorder.specs.declared.mode.Mode.TheVariants.{Running, WakeUpTimer, Stopped}
@@ -15,8 +15,8 @@ use Rattle.counters.specs.declared.timer.Source.TheVariants.{Held}
 use Rattle.counters.specs.declared.buzzer.Buzzer.{Buzzer}
 use Rattle.counters.specs.declared.basic.BasicTimer.{BasicTimer}
 use Rattle.counters.specs.declared.basic.Passing.{Passing}
-use Rattle.counters.specs.Counting.{awake, flip, fewer}
-use Rattle.counters.specs.Timers.{counts, at, of0, of1, pulses, timer_ticked, timers, timers_ticked, timers_moved, timers_still}
+use Rattle.counters.specs.Counting.{awake, flip}
+use Rattle.counters.specs.Timers.{counts, at, pulses, timer_ticked, timers, timers_ticked, timers_moved, timers_still}
 use Rattle.counters.specs.Buzzers.{buzzer_ticked, buzzer_moved, buzzer_still}
 use Rattle.counters.specs.Basic.{basic_ticked, basic_moved, basic_still}
 use Rattle.counters.specs.Quiet.{prescaled, Within, Longest, TimersQuiet, BuzzerQuiet, BasicQuiet}
@@ -28,14 +28,13 @@ use Rattle.ports.specs.declared.request.Requests.{Requests}
 use Rattle.ports.specs.declared.request.Events.{Events}
 use Rattle.ports.specs.Ports.{bit_of, sampled}
 use Rattle.ports.specs.Edges.{selected, edges_of}
-use Rattle.ports.specs.Requests.{requests, pending, wakes, noted}
-use Rattle.bus.specs.declared.parts.Parts.{Parts}
+use Rattle.ports.specs.Requests.{requests, wakes, noted}
 use Rattle.bus.specs.Outcomes.{bind}
 use Rattle.machine.specs.declared.state.Machine.{Machine}
 use Rattle.machine.specs.declared.state.Action.{Action}
-use Rattle.machine.specs.declared.state.Action.TheVariants.{Rest, Accept, Execute}
-use Rattle.machine.specs.Tick.{machine, interrupt_of, attended, action_of, acted, begun, pins_of, prescaler_after, resets, Happened, happened, events_of, counted, reset_machine, finished_with, finished}
-use Rattle.machine.specs.Quiet.{rest_for, still_for, prescaler_moved, moved, Nothing, QuietTick, ticked, one_by_one, Spans, Sound, Span}
+use Rattle.machine.specs.declared.state.Action.TheVariants.{Rest}
+use Rattle.machine.specs.Tick.{machine, interrupt_of, attended, action_of, acted, prescaler_after, resets, Happened, happened, events_of, counted, reset_machine, finished}
+use Rattle.machine.specs.Quiet.{rest_for, still_for, prescaler_moved, moved, QuietTick, ticked, one_by_one, Spans, Span}
 
 -- a word that stays has no edges
 still_level : (x y b : Bool) → ((x && (b && not b)) || (y && (not b && b))) ≡ false

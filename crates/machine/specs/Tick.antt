@@ -1,5 +1,5 @@
 -- One tick: the chip acts, its samples are taken, and its counters run.
-use Rattle.std.specs.Prelude.{ℕ, ◌+◌, ◌-◌, ◌/◌, ◌%◌, Bool, true, false, cond, not, ◌&&◌, ◌||◌, List, Some, None, Ok, Err, Option, Result, ◌==◌}
+use Rattle.std.specs.Prelude.{ℕ, ◌+◌, ◌-◌, ◌/◌, ◌%◌, Bool, cond, not, ◌&&◌, ◌||◌, List, Some, None, Ok, Option, Result, ◌==◌}
 use Rattle.faults.specs.declared.Fault.{Fault}
 use Rattle.recorder.specs.declared.mode.Mode.{Mode}
 use Rattle.recorder.specs.declared.mode.Mode.TheVariants.{Running, WakeUpTimer, Stopped}
@@ -18,7 +18,6 @@ use Rattle.ports.specs.declared.edges.Edges.{Edges}
 use Rattle.ports.specs.Ports.{sampled, ports_reset}
 use Rattle.ports.specs.Requests.{requests_reset, pending, wakes, vector_of, accepted, noted}
 use Rattle.ports.specs.Edges.{edges_of}
-use Rattle.cpu.specs.declared.registers.Registers.{Registers}
 use Rattle.cpu.specs.State.{cleared, with_pc, with_flags}
 use Rattle.bus.specs.declared.parts.Parts.{Parts}
 use Rattle.bus.specs.With.{parts_with_mode, parts_with_requests}

@@ -1,5 +1,5 @@
 -- Edges of the host's pins between the tick before and a tick.
-use Rattle.std.specs.Prelude.{ℕ, ◌/◌, ◌%◌, Bool, true, false, not, ◌&&◌, ◌||◌}
+use Rattle.std.specs.Prelude.{ℕ, ◌/◌, Bool, not, ◌&&◌, ◌||◌}
 use Rattle.ports.specs.declared.port.Ports.{Ports}
 use Rattle.ports.specs.declared.edges.Edges.{Edges}
 use Rattle.ports.specs.Ports.{bit_of}

@@ -1,5 +1,5 @@
 -- The three ports: latches, directions and functions, as pin words.
-use Rattle.std.specs.Prelude.{ℕ, ◌+◌, ◌-◌, ◌*◌, ◌/◌, ◌%◌, Bool, true, false, cond, ◌&&◌, ◌==◌, bit_and, bit_or}
+use Rattle.std.specs.Prelude.{ℕ, ◌+◌, ◌-◌, ◌*◌, ◌/◌, ◌%◌, Bool, cond, ◌==◌, bit_and, bit_or}
 use Rattle.recorder.specs.declared.pin_sample.PinSample.{PinSample}
 use Rattle.ports.specs.declared.port.Ports.{Ports}
 

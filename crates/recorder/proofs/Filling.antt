@@ -1,12 +1,12 @@
 -- Charts that only `append` has filled show the samples that were added.
-use Rattle.std.proofs.Common.{◌≡◌, ℕ, ◌+◌, ◌-◌, ◌^◌, ◌<◌, ◌≤◌, Bool, true, false, ◌⊎◌, List, length, get_or, set, IfSome, Some, None, Option, sym, refl, ap, ◌∙◌, subst, inl, inr, arith, length-set}
-use Rattle.std.proofs.lemmas.List.{get_or-set_same, get_or-set_other}
+use Rattle.std.proofs.Common.{◌≡◌, ℕ, ◌+◌, ◌-◌, ◌<◌, ◌≤◌, true, false, ◌⊎◌, List, length, set, IfSome, Some, None, Option, sym, refl, ap, ◌∙◌, subst, inl, inr, arith, length-set}
+use Rattle.std.proofs.lemmas.List.{get_or-set_other}
 use Rattle.std.proofs.lemmas.Bool.{both_ways, cases_eq, cases_lt}
 use Rattle.recorder.specs.declared.stretch.Stretch.{Stretch}
 use Rattle.recorder.specs.Kinds.{Kind}
 use Rattle.recorder.specs.Charts.{stretch, longer, end, place, end_of, goes_on, appended}
 use Rattle.recorder.specs.Histories.{Recorded, began, added, Covers, Covered, Shows, Told, Adds}
-use Rattle.recorder.proofs.Appending.{Way, none, grows, begins, unfit, full, way, goes_on_lem, on_from, end_last, longer_end, fresh_end, one_by_one_lem}
+use Rattle.recorder.proofs.Appending.{none, grows, begins, unfit, full, way, goes_on_lem, on_from, end_last, longer_end, fresh_end, one_by_one_lem}
 
 -- n stretches d, end to end from tick 0 to tick t, that show the samples s
 record Good {X : Type 0} (d : ℕ → Stretch X) (n t : ℕ) (s : ℕ → X) : Type 0 where

@@ -1,5 +1,5 @@
 -- Every entry of the rule is sound: one test, computed at all 256 codes.
-use Rattle.std.proofs.Common.{◌≡◌, ℕ, ◌+◌, ◌<◌, ◌≤◌, Bool, true, false, cond, ◌&&◌, leb, sym, refl, ap, ◌∙◌}
+use Rattle.std.proofs.Common.{◌≡◌, ℕ, ◌+◌, ◌<◌, Bool, true, cond, ◌&&◌, leb, sym, refl, ap, ◌∙◌}
 use Rattle.std.proofs.lemmas.Bool.{leb-true, and_parts}
 use Rattle.sheet.specs.declared.table.Entry.{Entry}
 use Rattle.sheet.specs.Rule.{entry_at}

@@ -1,4 +1,4 @@
-use Rattle.std.proofs.Common.{◌≡◌, sym, ◌∙◌, arith}
+use Rattle.std.proofs.Common.{sym, ◌∙◌, arith}
 use Rattle.hosts.proofs.Pulsing.{bad_here, fair_here, fair_all}
 use Rattle.hosts.proofs.pulses.first_bad.Goals as goal
 

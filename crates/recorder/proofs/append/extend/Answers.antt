@@ -1,6 +1,6 @@
-use Rattle.std.proofs.Common.{◌≡◌, ◌-◌, ◌<◌, length, get_or, sym, ap, ◌∙◌, arith}
+use Rattle.std.proofs.Common.{◌-◌, sym, ap, arith}
 use Rattle.std.proofs.lemmas.List.{get_or_default}
-use Rattle.recorder.specs.Charts.{stretch, place}
+use Rattle.recorder.specs.Charts.{stretch}
 use Rattle.recorder.specs.declared.stretch.Stretch.{Stretch}
 use Rattle.recorder.proofs.Appending.{room_true, goes_on_lem, end_last, adds_longer, adds_fresh, adds_full}
 use Rattle.recorder.proofs.append.extend.Goals as goal

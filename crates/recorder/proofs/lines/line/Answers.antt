@@ -1,4 +1,4 @@
-use Rattle.std.proofs.Common.{◌≡◌, ℕ, ◌-◌, List, [], ◌∷◌, ◌++◌, length, take, ap, ◌∙◌, subst, arith}
+use Rattle.std.proofs.Common.{◌≡◌, ℕ, ◌-◌, List, length, take, ap, ◌∙◌, subst, arith}
 use Rattle.recorder.specs.Puts.{Put}
 use Rattle.recorder.specs.Lines.{start_of, line_of}
 use Rattle.recorder.proofs.Putting.{put_then, lined_put, lined_short, take_over}

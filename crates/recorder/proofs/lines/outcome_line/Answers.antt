@@ -1,4 +1,4 @@
-use Rattle.std.proofs.Common.{◌≡◌, ℕ, List, [], ◌∷◌, ◌++◌, subst, arith}
+use Rattle.std.proofs.Common.{ℕ, [], ◌∷◌, ◌++◌, subst, arith}
 use Rattle.recorder.specs.Puts.{Put}
 use Rattle.recorder.specs.Lines.{start_of, outcome_of}
 use Rattle.recorder.proofs.Putting.{put_then, lined_put, lined_short}

@@ -1,4 +1,4 @@
-use Rattle.std.proofs.Common.{◌/◌, ◌<◌, ◌≤◌, length, decimal, ap, arith}
+use Rattle.std.proofs.Common.{◌/◌, length, ap, arith}
 use Rattle.std.proofs.lemmas.Fmt.{decimal_digit, decimal_step, length-decimal-le}
 use Rattle.recorder.proofs.Putting.{put_then}
 use Rattle.recorder.proofs.puts.+put_decimal.Goals as goal

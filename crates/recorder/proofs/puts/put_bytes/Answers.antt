@@ -1,4 +1,4 @@
-use Rattle.std.proofs.Common.{length, arith}
+use Rattle.std.proofs.Common.{arith}
 use Rattle.std.proofs.lemmas.List.{length-take-le, take_more, take_all}
 use Rattle.recorder.proofs.Putting.{put_then}
 use Rattle.recorder.proofs.puts.put_bytes.Goals as goal

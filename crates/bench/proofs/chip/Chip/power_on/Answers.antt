@@ -1,4 +1,4 @@
-use Rattle.std.proofs.Common.{Bool, cond, eqb, length, Ok, Err, sym, refl, ap, ◌∙◌, subst}
+use Rattle.std.proofs.Common.{Bool, cond, length, Ok, Err, sym, refl, ap, ◌∙◌, subst}
 use Rattle.std.proofs.lemmas.Bool.{eq-eqb}
 use Rattle.faults.specs.declared.Fault.TheVariants.{ImageSize}
 use Rattle.bench.specs.declared.held.Held.{Held}

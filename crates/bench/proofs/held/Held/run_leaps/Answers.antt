@@ -1,4 +1,4 @@
-use Rattle.std.proofs.Common.{◌≡◌, ℕ, ◌+◌, ◌≤◌, sym, refl, subst, arith}
+use Rattle.std.proofs.Common.{sym, refl, subst, arith}
 use Rattle.bench.specs.declared.leap.Seen.{Seen}
 use Rattle.bench.specs.Charting.{both}
 use Rattle.bench.specs.Leaps.{Sees}

@@ -1,7 +1,5 @@
-use Rattle.std.proofs.Common.{◌≡◌, ℕ, Some, Option, sym, ap, ◌∙◌, subst, arith, rules}
-use Rattle.counters.specs.declared.timer.Source.{Source}
-use Rattle.counters.specs.declared.timer.Source.TheVariants.{Divider}
-use Rattle.counters.specs.Timers.{Sane, timer_still}
+use Rattle.std.proofs.Common.{◌≡◌, ℕ, Some, Option, sym, subst, arith, rules}
+use Rattle.counters.specs.Timers.{timer_still}
 use Rattle.counters.specs.Quiet.{Longest, TimerQuiet}
 use Rattle.counters.proofs.Quiets.{timer_longest, timer_starts}
 use Rattle.counters.proofs.timer.Timer.still.Goals as goal
