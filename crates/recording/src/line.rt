@@ -43,13 +43,13 @@ fn read_keyword(field: &[u8]) -> Keyword
 {
     if is_comment(field) {
         Keyword::Comment
-    } else if field == b"ticks" {
+    } else if field == b"ticks".as_slice() {
         Keyword::Ticks
-    } else if field == b"word" {
+    } else if field == b"word".as_slice() {
         Keyword::Word
-    } else if field == b"pulse" {
+    } else if field == b"pulse".as_slice() {
         Keyword::Pulse
-    } else if field == b"wave" {
+    } else if field == b"wave".as_slice() {
         Keyword::Wave
     } else {
         Keyword::Unknown

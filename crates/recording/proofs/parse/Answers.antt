@@ -14,12 +14,12 @@ at_end n s ps rest e = ap (λ r. read_on n s ps (lines_of r)) (nil_from_length r
 with_word : (s : Seen) (ps : List Pulse) (t w v : ℕ) → w ≡ v → ◌≡◌ {A = Result Described WrongLine} (Ok (record { ticks = t; word = w; pulses = ps; wave = s.wave })) (Ok (record { ticks = t; word = v; pulses = ps; wave = s.wave }))
 with_word s ps t w v e = cc
 
-pub returns-in-default : goal.returns-in-default
-returns-in-default c =
+pub returns-in_default : goal.returns-in_default
+returns-in_default c =
     let l = c.loop-rest in
     l.invariant.0
     ∙ at_end l.line l.seen (vec_items l.pulses) l.rest.now (true-eqb _ _ c.loop-rest-test.ensures)
-    ∙ ap (ended l.line l.seen (vec_items l.pulses)) c.in-default.is
+    ∙ ap (ended l.line l.seen (vec_items l.pulses)) c.in_default.is
 
 pub returns : goal.returns
 returns c =
@@ -27,4 +27,4 @@ returns c =
     l.invariant.0
     ∙ at_end l.line l.seen (vec_items l.pulses) l.rest.now (true-eqb _ _ c.loop-rest-test.ensures)
     ∙ ap (ended l.line l.seen (vec_items l.pulses)) c.in-Some.is
-    ∙ with_word l.seen (vec_items l.pulses) c.in-Some.ticks _ _ (sym c.unwrap-or.ensures)
+    ∙ with_word l.seen (vec_items l.pulses) c.in-Some.ticks _ _ (sym c.unwrap_or.ensures)

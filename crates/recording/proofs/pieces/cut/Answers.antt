@@ -4,20 +4,20 @@ use Rattle.recording.specs.Pieces.{before}
 use Rattle.recording.proofs.Cutting.{cut_at_end, cut_before, before_within}
 use Rattle.recording.proofs.pieces.cut.Goals as goal
 
-pub split-at-requires : goal.split-at-requires
-split-at-requires c = omega (arith, before_within c.args.separator c.args.bytes.now)
+pub split_at-requires : goal.split_at-requires
+split_at-requires c = omega (arith, before_within c.args.separator c.args.bytes.now)
 
-pub returns-then-is-empty : goal.returns-then-is-empty
-returns-then-is-empty c =
-    let f : c.split-at.result.0.now ≡ take (before c.args.separator c.args.bytes.now) c.args.bytes.now = cc in
-    let b : c.split-at.result.1.now ≡ drop (before c.args.separator c.args.bytes.now) c.args.bytes.now = cc in
-    record { pieces = cut_at_end _ _ _ _ c.requires f b (true-eqb _ _ c.if-is-empty.ensures); shorter = omega (arith, true-eqb _ _ c.if-is-empty.ensures) }
+pub returns-then-is_empty : goal.returns-then-is_empty
+returns-then-is_empty c =
+    let f : c.split_at.result.0.now ≡ take (before c.args.separator c.args.bytes.now) c.args.bytes.now = cc in
+    let b : c.split_at.result.1.now ≡ drop (before c.args.separator c.args.bytes.now) c.args.bytes.now = cc in
+    record { pieces = cut_at_end _ _ _ _ c.requires f b (true-eqb _ _ c.if-is_empty.ensures); shorter = omega (arith, true-eqb _ _ c.if-is_empty.ensures) }
 
 pub returns : goal.returns
 returns c =
-    let f : c.split-at.result.0.now ≡ take (before c.args.separator c.args.bytes.now) c.args.bytes.now = cc in
-    let b : c.split-at.result.1.now ≡ drop (before c.args.separator c.args.bytes.now) c.args.bytes.now = cc in
+    let f : c.split_at.result.0.now ≡ take (before c.args.separator c.args.bytes.now) c.args.bytes.now = cc in
+    let b : c.split_at.result.1.now ≡ drop (before c.args.separator c.args.bytes.now) c.args.bytes.now = cc in
     record {
       pieces = cut_before _ _ _ _ c.requires f b;
-      shorter = omega (arith, false-eqb _ _ c.if-is-empty.ensures, ap length (take_rest c.split-at.result.1.now 1), length-drop 1 c.split-at.result.1.now);
+      shorter = omega (arith, false-eqb _ _ c.if-is_empty.ensures, ap length (take_rest c.split_at.result.1.now 1), length-drop 1 c.split_at.result.1.now);
     }
