@@ -1,5 +1,5 @@
 -- A line that is written into a buffer and added to what is there.
-use Rattle.std.proofs.Common.{◌≡◌, ℕ, ◌-◌, ◌≤◌, cond, ltb, List, ◌++◌, length, take, is_ok, IfOk, Ok, Err, Result, sym, refl, ap, ◌∙◌, arith}
+use Rattle.std.proofs.Common.{◌≡◌, ℕ, ◌-◌, ◌≤◌, cond, List, ◌++◌, length, take, is_ok, IfOk, Ok, Err, Result, refl, ap, ◌∙◌, arith}
 use Rattle.std.proofs.lemmas.Bool.{le-ltb}
 use Rattle.faults.specs.declared.Fault.{Fault}
 use Rattle.recorder.specs.Lines.{over, lined}

@@ -12,7 +12,7 @@ use std::alloc::AllocError;
 
 // Adds the line of one stretch.
 fn add_line<S: Sample>(out: &mut Vec<u8>, stretch: &Stretch<S>) -> Result<(), AllocError>
-    ensures { OnOk result (out.new.items ≡ out.old.items ++ line_of script stretch.now) }
+    ensures { OnOk result (out.new.items ≡ out.old.items ++ line_of S.script stretch.now) }
 {
     let mut buffer = [0u8; 64];
     let Ok(n) = line(stretch, &mut buffer) else {
@@ -23,7 +23,7 @@ fn add_line<S: Sample>(out: &mut Vec<u8>, stretch: &Stretch<S>) -> Result<(), Al
 
 // Adds the lines of stretches, in their order.
 pub fn add_lines<S: Sample>(out: &mut Vec<u8>, stretches: &[Stretch<S>]) -> Result<(), AllocError>
-    ensures { OnOk result (out.new.items ≡ out.old.items ++ flat_map (line_of script) stretches.now) }
+    ensures { OnOk result (out.new.items ≡ out.old.items ++ flat_map (line_of S.script) stretches.now) }
 {
     for stretch in stretches {
         add_line(out, stretch)?;

@@ -14,7 +14,7 @@ loop-stretch-preserved g c =
     let x = c.stretch-item.result in
     let front : take (i + 1) xs ≡ take i xs ++ (x ∷ []) =
     take_more xs i x c.loop-stretch-test.true ∙ ap (λ (y : Stretch g.row.S.Denot). take i xs ++ (y ∷ [])) (sym c.stretch-item.is) in
-    c.in-ok-add-line.ensures ∙ ap (λ (v : List _). v ++ f x) c.loop-stretch.invariant ∙ flat_map_more f items (take i xs) x ∙ ap (λ (ys : List (Stretch g.row.S.Denot)). items ++ flat_map f ys) (sym front)
+    c.in_ok-add_line.ensures ∙ ap (λ (v : List _). v ++ f x) c.loop-stretch.invariant ∙ flat_map_more f items (take i xs) x ∙ ap (λ (ys : List (Stretch g.row.S.Denot)). items ++ flat_map f ys) (sym front)
 
 pub returns : goal.returns
 returns g c =

@@ -5,4 +5,4 @@ use Rattle.report.proofs.add_outcome.Goals as goal
 
 pub returns : goal.returns
 returns c =
-    reported c.extend-from-slice.result (vec_items c.args.out.now) _ (outcome_of c.args.ticks c.args.fault) (replicate 64 0) c.outcome-line.new.buffer c.in-Ok.length (lit≤ tt) c.in-Ok.ensures.written c.extend-from-slice.ensures.items
+    reported c.extend_from_slice.result (vec_items c.args.out.now) _ (outcome_of c.args.ticks c.args.fault) (replicate 64 0) c.outcome_line.new.buffer c.in-Ok.length (lit≤ tt) c.in-Ok.ensures.written c.extend_from_slice.ensures.items
