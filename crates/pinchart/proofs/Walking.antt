@@ -1,6 +1,5 @@
 -- Ticks of one word, walked one by one, are a move.
 use Rattle.std.proofs.Common.{◌≡◌, ℕ, zero, suc, ◌+◌, ◌-◌, ◌^◌, ◌<◌, ◌≤◌, List, Some, None, Option, sym, refl, ap, ◌∙◌, subst, arith}
-use Rattle.faults.specs.declared.Fault.{Fault}
 use Rattle.faults.specs.declared.Fault.TheVariants.{NoPinPlace}
 use Rattle.recorder.specs.declared.stretch.Stretch.{Stretch}
 use Rattle.recorder.specs.declared.pin_sample.PinSample.{PinSample}

@@ -12,9 +12,9 @@ pub returns-in-Ok : goal.returns-in-Ok
 returns-in-Ok c =
     let d = described c.args.recording.now in
     let cs = c.args.chart.now in
-    let r = c.chart-with in
+    let r = c.chart_with in
     let s = set_ok _ _ _ _ _ _ c.in-Ok.ensures in
-    let at = c.as-slice.ensures.value in
+    let at = c.as_slice.ensures.value in
     let good : bad_pulse d.pulses ≡ None = ap bad_pulse (sym at) ∙ s.0 in
     let same = set_shows c.set.new.self.word d.word c.set.new.self.pulses.now d.pulses s.1 (s.2 ∙ at) in
     record {

@@ -1,4 +1,4 @@
-use Rattle.std.proofs.Common.{◌≡◌, ℕ, ◌^◌, ◌≤◌, min, sym, refl, ap, ◌∙◌, subst, arith}
+use Rattle.std.proofs.Common.{◌≡◌, ◌^◌, min, sym, refl, ap, ◌∙◌, arith}
 use Rattle.std.proofs.lemmas.Bool.Decides.{nat_tests}
 use Rattle.recorder.specs.Histories.{Recorded, began}
 use Rattle.recorder.specs.Samples.{pin_kind}
@@ -17,18 +17,18 @@ pub loop-tick-preserved : goal.loop-tick-preserved
 loop-tick-preserved g c =
     let m = g.P.PinHost.meaning c.args.host.now in
     let l = c.loop-tick in
-    let u = c.quiet-until-next in
+    let u = c.quiet_until-next in
     let word : c.levels.result ≡ m l.tick = grind (arith, nat_tests) in
     let on = moved m c.args.chart.now l.tick u.result l.count c.levels.result l.chart u.ensures.above (omega arith) l.invariant.1 l.invariant.2 word u.ensures.quiet c.in-Some.more c.append.new.chart c.in-Some.ensures.facts in
     (u.ensures.within, on.0, on.1)
 
-pub returns-in-default : goal.returns-in-default
-returns-in-default g c =
+pub returns-in_default : goal.returns-in_default
+returns-in_default g c =
     let m = g.P.PinHost.meaning c.args.host.now in
     let l = c.loop-tick in
-    let u = c.quiet-until-next in
+    let u = c.quiet_until-next in
     let word : c.levels.result ≡ m l.tick = grind (arith, nat_tests) in
-    let on = stopped m c.args.chart.now l.tick u.result l.count c.levels.result l.chart u.ensures.above (omega arith) l.invariant.1 l.invariant.2 word u.ensures.quiet c.append.new.chart (min c.args.ticks (2 ^ 48)) (omega arith) c.in-default.ensures.value in
+    let on = stopped m c.args.chart.now l.tick u.result l.count c.levels.result l.chart u.ensures.above (omega arith) l.invariant.1 l.invariant.2 word u.ensures.quiet c.append.new.chart (min c.args.ticks (2 ^ 48)) (omega arith) c.in_default.ensures.value in
     record { value = on.1; shown = on.0 }
 
 pub returns : goal.returns
