@@ -1,12 +1,12 @@
 // Reads a text that describes recorded pins from standard input, and prints the chart of what they show.
 #![tactic(auto)]
 
-use anyhow::anyhow;
 use pinchart::recorded::print_recording;
 use recorder::pin_sample::PinSample;
 use recorder::stretch::Stretch;
 use recording::{Recording, TextError, parse};
 use std::io::{Read, Write};
+use std::process::ExitCode;
 
 // How many stretches a chart has places for.
 const PLACES: usize = 65536;
@@ -20,27 +20,29 @@ const BLANK: Stretch<PinSample> = Stretch {
     },
 };
 
-// The description on standard input. A wrong line is told on standard error.
-fn read_recording(rt: &HostRuntime) -> anyhow::Result<Recording> {
+// The description on standard input. None where it is wrong or memory ran out, which is told on standard error.
+fn read_recording(rt: &HostRuntime) -> anyhow::Result<Option<Recording>> {
     let mut text = Vec::new(rt.alloc());
     rt.stdin().read_to_end(&mut text)?;
     match parse(rt.alloc(), text.as_slice()) {
-        Ok(recording) => Ok(recording),
+        Ok(recording) => Ok(Some(recording)),
         Err(TextError::Wrong(wrong)) => {
             rt.eprintln(wrong)?;
-            Err(anyhow!("a wrong line"))
+            Ok(None)
         }
         Err(TextError::OutOfMemory) => {
             rt.eprintln("out of memory")?;
-            Err(anyhow!("out of memory"))
+            Ok(None)
         }
     }
 }
 
-fn main(rt: HostRuntime) -> anyhow::Result<()> {
-    let recording = read_recording(&rt)?;
+fn main(rt: HostRuntime) -> anyhow::Result<ExitCode> {
+    let Some(recording) = read_recording(&rt)? else {
+        return Ok(ExitCode::FAILURE);
+    };
     let mut chart = vec![in rt.alloc(); BLANK; PLACES]?;
     let out = print_recording(rt.alloc(), &recording, chart.as_mut_slice())?;
     rt.stdout().write_all(out.as_slice())?;
-    Ok(())
+    Ok(ExitCode::SUCCESS)
 }
