@@ -1,5 +1,5 @@
 -- Bytes that are added after bytes.
-use Rattle.std.proofs.Common.{◌≡◌, ℕ, List, ◌++◌, IfOk, Ok, Err, Result, sym, ap, ◌∙◌, append_assoc}
+use Rattle.std.proofs.Common.{◌≡◌, ℕ, List, ◌++◌, IfOk, Ok, Err, Result, ap, ◌∙◌, append_assoc}
 use Rattle.vcd.specs.Adds.{Adds}
 
 pub then : {i j k a b : List ℕ} → Adds i a j → Adds j b k → Adds i (a ++ b) k

@@ -1,4 +1,4 @@
-use Rattle.std.proofs.Common.{◌≡◌, ℕ, ◌+◌, List, [], ◌∷◌, ◌++◌, drop, vec_items, sym, refl, ap, ◌∙◌, append-nil, arith}
+use Rattle.std.proofs.Common.{ℕ, ◌+◌, List, [], ◌++◌, drop, vec_items, sym, ap, ◌∙◌, append-nil, arith}
 use Rattle.std.proofs.lemmas.List.{drop_more, drop_all}
 use Rattle.vcd.specs.Headers.{pin_names, var_lines}
 use Rattle.vcd.proofs.Adding.{step}
@@ -11,7 +11,7 @@ loop-name-preserved c =
     let suffix = c.args.suffix.now in
     let e = drop_more pin_names l.name-index [] c.loop-name-test.true in (
       omega arith,
-      step (var_lines (l.id + 1) suffix (drop (l.name-index + 1) pin_names)) c.in-ok-add-variable.ensures (ap (λ (ns : List (List ℕ)). vec_items l.out ++ var_lines l.id suffix ns) (sym e) ∙ l.invariant.1),
+      step (var_lines (l.id + 1) suffix (drop (l.name-index + 1) pin_names)) c.in_ok-add_variable.ensures (ap (λ (ns : List (List ℕ)). vec_items l.out ++ var_lines l.id suffix ns) (sym e) ∙ l.invariant.1),
     )
 
 pub returns : goal.returns

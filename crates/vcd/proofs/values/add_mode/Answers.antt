@@ -3,12 +3,12 @@ use Rattle.vcd.proofs.values.add_mode.Goals as goal
 
 pub returns-in-Running : goal.returns-in-Running
 unfolding mode_line
-returns-in-Running c = rw c.in-Running.is c.add-bytes.ensures
+returns-in-Running c = rw c.in-Running.is c.add_bytes.ensures
 
 pub returns-in-WakeUpTimer : goal.returns-in-WakeUpTimer
 unfolding mode_line
-returns-in-WakeUpTimer c = rw c.in-WakeUpTimer.is c.add-bytes-in-WakeUpTimer.ensures
+returns-in-WakeUpTimer c = rw c.in-WakeUpTimer.is c.add_bytes-in-WakeUpTimer.ensures
 
 pub returns-in-Stopped : goal.returns-in-Stopped
 unfolding mode_line
-returns-in-Stopped c = rw c.in-Stopped.is c.add-bytes-in-Stopped.ensures
+returns-in-Stopped c = rw c.in-Stopped.is c.add_bytes-in-Stopped.ensures

@@ -3,5 +3,5 @@ use Rattle.vcd.proofs.values.add_start.Goals as goal
 
 pub returns : goal.returns
 returns c =
-    let r = c.add-bytes-2.result in
-    then_made r _ _ c.in-ok-add-bytes.ensures (then_made r _ _ c.in-ok-add-pins.ensures (then_made r _ _ c.in-ok-add-mode.ensures c.add-bytes-2.ensures))
+    let r = c.add_bytes-2.result in
+    then_made r _ _ c.in_ok-add_bytes.ensures (then_made r _ _ c.in_ok-add_pins.ensures (then_made r _ _ c.in_ok-add_mode.ensures c.add_bytes-2.ensures))
