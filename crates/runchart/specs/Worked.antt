@@ -1,13 +1,11 @@
 -- Worked examples, by computation.
-use Rattle.std.specs.Prelude.{◌≡◌, ℕ, ◌^◌, true, false, List, [], ◌∷◌, ◌++◌, take, replicate, Some, None, codes, Option}
+use Rattle.std.specs.Prelude.{◌≡◌, ℕ, ◌^◌, true, false, List, [], ◌∷◌, ◌++◌, take, replicate, Some, None, codes}
 use Rattle.sheet.specs.declared.operation.AluOp.TheVariants.{Adc, Sbc}
 use Rattle.hosts.specs.Marks.{capped}
 use Rattle.hosts.specs.Waves.{turn_after}
 use Rattle.hosts.specs.Pulses.{turn_of}
 use Rattle.hosts.specs.declared.pulse.Pulse.{Pulse}
-use Rattle.recorder.specs.declared.stretch.Stretch.{Stretch}
 use Rattle.recorder.specs.declared.pin_sample.PinSample.{PinSample}
-use Rattle.recorder.specs.declared.mode.Mode.{Mode}
 use Rattle.recorder.specs.declared.mode.Mode.TheVariants.{Running}
 use Rattle.recorder.specs.Charts.{stretch}
 use Rattle.cpu.specs.Effects.{sum_of}
