@@ -1,4 +1,4 @@
-use Rattle.std.proofs.Common.{◌≡◌, ℕ, ◌-◌, Bool, cond, eqb, List, length, take, Some, None, Option, ap, ◌∙◌, ap₂, arith}
+use Rattle.std.proofs.Common.{◌≡◌, ℕ, ◌-◌, Bool, cond, List, length, take, Some, None, Option, ap, ◌∙◌, ap₂, arith}
 use Rattle.std.proofs.lemmas.Bool.{eq-eqb}
 use Rattle.bench.specs.Charting.{Charts, both}
 use Rattle.bench.specs.Runs.{Ran, answer}
@@ -13,7 +13,7 @@ run_of input c d o long e = ap (λ (p : Option Ran × Charts). p.0) (e ∙ ap (�
 
 pub unreachable-requires : goal.unreachable-requires
 unreachable-requires c =
-    let e = run_of c.args.input.now (both c.args.pins.now c.args.modes.now) _ None c.requires c.in-default.ensures.value in
+    let e = run_of c.args.input.now (both c.args.pins.now c.args.modes.now) _ None c.requires c.in_default.ensures.value in
     let z : ◌≡◌ {A = ℕ} 0 1 = cc in
     omega arith
 
@@ -22,8 +22,8 @@ returns c =
     let input = c.args.input.now in
     let charts = both c.args.pins.now c.args.modes.now in
     let r = c.in-Some.charted in
-    let pins = c.chart-input.new.pins in
-    let modes = c.chart-input.new.modes in
+    let pins = c.chart_input.new.pins in
+    let modes = c.chart_input.new.modes in
     let n = r.held.stretches.pins in
     let m = r.held.stretches.modes in
     let some = run_of input charts (both pins modes) (Some (answer r.run.ticks r.run.fault r.held (both pins modes))) c.requires c.in-Some.ensures.value in
@@ -33,5 +33,5 @@ returns c =
     record {
       ticks = ap (λ (x : Ran). x.ticks) is;
       fault = ap (λ (x : Ran). x.fault) is;
-      file = c.in-ok-file.ensures ∙ ap₂ (λ (i j : ℕ). vcd_of (take i pins) (take j modes) r.run.ticks) en em ∙ ap wave_of is;
+      file = c.in_ok-file.ensures ∙ ap₂ (λ (i j : ℕ). vcd_of (take i pins) (take j modes) r.run.ticks) en em ∙ ap wave_of is;
     }
