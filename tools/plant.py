@@ -4,8 +4,9 @@
     python3 tools/plant.py CRATE..    the bugs in these crates
 
 It works in a copy of the repository in a temporary folder, and proves each crate there once before its bugs. The proof refuses
-a bug if `rt dev` of its crate does not prove the crate with it. Any other bug is shown to the tests, and survives if they pass.
-A bug that does not compile, or whose old text does not stand exactly once in its file, is an error in the list.
+a bug if `rt check` in the crate's folder does not prove the crate with it. Any other bug is shown to the tests and programs above
+it, and survives if they pass. A bug that does not compile, or whose old text does not stand exactly once in its file, is an error
+in the list.
 """
 
 import pathlib
@@ -18,8 +19,8 @@ import time
 ROOT = pathlib.Path(__file__).resolve().parent.parent
 LIST = ROOT / "tools" / "planted.txt"
 KEYS = ("crate", "file", "old", "new")
-# What can see a bug that the proof of its own crate does not: each proves the crates above it, and compares what is written.
-TESTS = (["rt", "test", "vectors"], ["rt", "check", "chart", "pins", "splits"])
+# What can see a bug that the proof of its own crate does not: it proves the crates above it, and compares what is written.
+TESTS = ["rt", "ci", "vectors", "chart", "pins", "splits"]
 VERDICTS = ("proof", "tests", "SURVIVES")
 
 
@@ -57,24 +58,28 @@ def check_list(bugs):
                 sys.exit(f"plant: {edit.relative_to(ROOT)} is the same bug")
 
 
-def run(command, root):
-    """The exit status and the last line of a command."""
-    done = subprocess.run(command, cwd=root, stdout=subprocess.PIPE, stderr=subprocess.STDOUT, check=False)
-    lines = done.stdout.decode("utf-8", "replace").splitlines()
-    return done.returncode, lines[-1] if lines else ""
+def run(command, folder):
+    """The exit status and the lines of a command."""
+    done = subprocess.run(command, cwd=folder, stdout=subprocess.PIPE, stderr=subprocess.STDOUT, check=False)
+    return done.returncode, done.stdout.decode("utf-8", "replace").splitlines()
+
+
+def prove(root, crate):
+    """Whether the crate in `root` is proved, and the lines of the check."""
+    status, lines = run(["rt", "check"], root / "crates" / crate)
+    return status == 0, lines
 
 
 def judge(bug, root):
     """What refuses the bug that is planted in `root`, and a note."""
-    _, last = run(["rt", "dev", bug["crate"]], root)
-    if last.startswith("logic=not-proved"):
-        return "proof", ""
-    if not last.startswith("logic=proved"):
-        return "ERROR", last
-    for command in TESTS:
-        status, last = run(command, root)
-        if status != 0:
-            return "tests", f"{' '.join(command)}: {last}"
+    proved, lines = prove(root, bug["crate"])
+    if not proved:
+        unproved = any(": not proved" in line or ": no proof: " in line for line in lines)
+        compiles = not any(": error[" in line for line in lines)
+        return ("proof", "") if unproved and compiles else ("ERROR", lines[-1] if lines else "")
+    status, lines = run(TESTS, root)
+    if status != 0:
+        return "tests", lines[-1] if lines else ""
     return "SURVIVES", ""
 
 
@@ -96,11 +101,11 @@ def main():
     counts, errors, begun = {}, 0, time.monotonic()
     with tempfile.TemporaryDirectory() as folder:
         root = pathlib.Path(folder) / "repository"
-        shutil.copytree(ROOT, root, ignore=shutil.ignore_patterns(".git"), symlinks=True)
+        shutil.copytree(ROOT, root, ignore=shutil.ignore_patterns(".git", "out"), symlinks=True)
         for bug in bugs:
             if bug["crate"] not in counts:
                 counts[bug["crate"]] = dict.fromkeys(VERDICTS, 0)
-                if not run(["rt", "dev", bug["crate"]], root)[1].startswith("logic=proved"):
+                if not prove(root, bug["crate"])[0]:
                     sys.exit(f"plant: {bug['crate']} is not proved even without a bug")
             path, start = source_of(root, bug), time.monotonic()
             whole = path.read_text(encoding="utf-8")
