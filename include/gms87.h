@@ -1,6 +1,6 @@
 /* The bench for the GMS87C1202 through one C function.
  *
- * Make the library with `rt staticlib capi`; it is target/staticlib/libcapi.a and needs memcpy and memset only.
+ * Make the library with `rt lib` in crates/capi; it is crates/capi/out/libcapi.a and needs memcpy and memset only.
  */
 #ifndef GMS87_H
 #define GMS87_H

@@ -10,7 +10,7 @@ fn main() -> std::process::ExitCode {
 
 #[cfg(not(bench))]
 fn main() -> std::process::ExitCode {
-    eprintln!("the bench's library is not there: make it with `rt staticlib capi`");
+    eprintln!("the bench's library is not there: make it with `rt lib` in crates/capi");
     std::process::ExitCode::FAILURE
 }
 

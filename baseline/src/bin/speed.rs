@@ -7,7 +7,7 @@ fn main() {
 
 #[cfg(not(bench))]
 fn main() {
-    eprintln!("the bench's library is not there: make it with `rt staticlib capi`");
+    eprintln!("the bench's library is not there: make it with `rt lib` in crates/capi");
 }
 
 #[cfg(bench)]
