@@ -1,5 +1,5 @@
 -- Numbers in a list of bytes, low bytes first.
-use Rattle.std.specs.Prelude.{ℕ, ◌+◌, ◌*◌, ◌^◌, List, slice_index}
+use Rattle.std.specs.Prelude.{ℕ, ◌+◌, ◌*◌, List, slice_index}
 
 abbrev pub word_at : List ℕ → ℕ → ℕ
 word_at b i = slice_index b i + 256 * slice_index b (i + 1)
