@@ -18,7 +18,7 @@ pub const IMAGE: usize = 2048;
 pub const GRANT: u64 = 1 << 32;
 
 // What a run call answers: the ticks that it ran, and why it was refused or stopped.
-#[derive(Clone, Copy)]
+#[derive(Clone, Copy, PartialEq, Eq, Debug)]
 pub struct Run {
     pub ticks: u64,
     pub fault: Option<Fault>,

@@ -7,13 +7,13 @@ use ports::request::Requests;
 use recorder::mode::Mode;
 
 // RAM, 0000 to 007F.
-#[derive(Clone, Copy)]
+#[derive(Clone, Copy, PartialEq, Eq, Debug)]
 pub struct Memory {
     pub ram: [u8; 128],
 }
 
 // What an instruction can change. PFDR is a register with no effect here.
-#[derive(Clone, Copy)]
+#[derive(Clone, Copy, PartialEq, Eq, Debug)]
 pub struct Parts {
     pub registers: Registers,
     pub memory: Memory,

@@ -7,7 +7,7 @@ use crate::mode::is_awake;
 use recorder::mode::Mode;
 
 // CKCTLR without BTCL, BITR, WDTR without WDTCL, and the watchdog's count.
-#[derive(Clone, Copy)]
+#[derive(Clone, Copy, PartialEq, Eq, Debug)]
 pub struct BasicTimer {
     pub control: u8,
     pub bitr: u8,
@@ -16,7 +16,7 @@ pub struct BasicTimer {
 }
 
 // What a tick did: whether BITR passed FF, and whether the watchdog, which that steps, was at its limit.
-#[derive(Clone, Copy)]
+#[derive(Clone, Copy, PartialEq, Eq, Debug)]
 pub struct Passing {
     pub passed: bool,
     pub watchdog: bool,

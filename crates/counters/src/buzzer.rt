@@ -7,7 +7,7 @@ use crate::mode::is_awake;
 use recorder::mode::Mode;
 
 // BUR, the buzzer's count and its level.
-#[derive(Clone, Copy)]
+#[derive(Clone, Copy, PartialEq, Eq, Debug)]
 pub struct Buzzer {
     pub bur: u8,
     pub count: u8,

@@ -8,7 +8,7 @@ use crate::span::fewer_ticks;
 use recorder::mode::Mode;
 
 // What a timer counts: pulses of the divider 2^n, rises of EC0, or nothing.
-#[derive(Clone, Copy)]
+#[derive(Clone, Copy, PartialEq, Eq, Debug)]
 pub enum Source {
     Divider(u8),
     Event,
@@ -16,7 +16,7 @@ pub enum Source {
 }
 
 // TM, TDR and the count of one timer.
-#[derive(Clone, Copy)]
+#[derive(Clone, Copy, PartialEq, Eq, Debug)]
 pub struct Timer {
     pub control: u8,
     pub limit: u8,
@@ -24,14 +24,14 @@ pub struct Timer {
 }
 
 // Both timers, and the level that Timer 0's match turns over.
-#[derive(Clone, Copy)]
+#[derive(Clone, Copy, PartialEq, Eq, Debug)]
 pub struct Timers {
     pub pair: [Timer; 2],
     pub comp: bool,
 }
 
 // Which timers matched at a tick.
-#[derive(Clone, Copy)]
+#[derive(Clone, Copy, PartialEq, Eq, Debug)]
 pub struct Matches {
     pub timer0: bool,
     pub timer1: bool,

@@ -4,7 +4,7 @@ ghost use Rattle.cpu.specs.State.{cleared, packed, unpacked, flag_of, index_of, 
 use sheet::operation::{Flag, FlagOp, Index, Saved};
 
 // Negative, overflow, direct page, break, half carry, interrupt enable, zero, carry.
-#[derive(Clone, Copy)]
+#[derive(Clone, Copy, PartialEq, Eq, Debug)]
 pub struct Flags {
     pub n: bool,
     pub v: bool,
@@ -16,7 +16,7 @@ pub struct Flags {
     pub c: bool,
 }
 
-#[derive(Clone, Copy)]
+#[derive(Clone, Copy, PartialEq, Eq, Debug)]
 pub struct Registers {
     pub a: u8,
     pub x: u8,

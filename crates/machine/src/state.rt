@@ -5,7 +5,7 @@ use ports::request::Interrupt;
 pub(crate) const PRESCALER: u16 = 2048;
 
 // The chip without its tick number: its parts, the ticks that are owed for what took effect, and the prescaler.
-#[derive(Clone, Copy)]
+#[derive(Clone, Copy, PartialEq, Eq, Debug)]
 pub struct Machine {
     pub parts: Parts,
     pub owed: u8,
@@ -13,7 +13,7 @@ pub struct Machine {
 }
 
 // What the first step of a tick does.
-#[derive(Clone, Copy)]
+#[derive(Clone, Copy, PartialEq, Eq, Debug)]
 pub enum Action {
     Rest,
     Accept(Interrupt),

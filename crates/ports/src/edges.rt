@@ -13,7 +13,7 @@ const RB2: u16 = 0x0400;
 const RB3: u16 = 0x0800;
 
 // The edges of a tick.
-#[derive(Clone, Copy)]
+#[derive(Clone, Copy, PartialEq, Eq, Debug)]
 pub struct Edges {
     pub int0: bool,
     pub int1: bool,

@@ -14,7 +14,7 @@ const BUZO: u8 = 0x02;
 const PWMO: u8 = 0x10;
 
 // Latches, directions (1 is out) and function registers.
-#[derive(Clone, Copy)]
+#[derive(Clone, Copy, PartialEq, Eq, Default, Debug)]
 pub struct Ports {
     pub ra: u8,
     pub rb: u8,

@@ -2,7 +2,7 @@ ghost use Rattle.std.specs.Prelude.{◌≡◌, if◌then◌else◌};
 ghost use Rattle.ports.specs.Requests.{requests_reset, first_high, first_low, pending, wakes, vector_of, accepted, noted};
 
 // What asks for the chip's attention, first to last.
-#[derive(Clone, Copy)]
+#[derive(Clone, Copy, PartialEq, Eq, Debug)]
 pub enum Interrupt {
     Int0,
     Int1,
@@ -14,7 +14,7 @@ pub enum Interrupt {
 }
 
 // What a tick did that sets requests.
-#[derive(Clone, Copy)]
+#[derive(Clone, Copy, PartialEq, Eq, Debug)]
 pub struct Events {
     pub int0: bool,
     pub int1: bool,
@@ -25,7 +25,7 @@ pub struct Events {
 }
 
 // IENH, IENL, IRQH, IRQL and IEDS.
-#[derive(Clone, Copy)]
+#[derive(Clone, Copy, PartialEq, Eq, Debug)]
 pub struct Requests {
     pub ienh: u8,
     pub ienl: u8,

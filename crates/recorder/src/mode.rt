@@ -5,8 +5,9 @@ use crate::puts::put_byte;
 use crate::stretch::{Sample, TEXT};
 
 // What the chip does at a tick: it runs, or sleeps with its wake-up timer counting, or sleeps with everything stopped.
-#[derive(Clone, Copy, PartialEq, Eq, Debug)]
+#[derive(Clone, Copy, PartialEq, Eq, Default, Debug)]
 pub enum Mode {
+    #[default]
     Running,
     WakeUpTimer,
     Stopped,

@@ -4,7 +4,7 @@ use crate::puts::{put_byte, put_hex};
 use crate::stretch::{Sample, TEXT};
 
 // The pins at a tick, a bit each: their levels, and which of them the chip drives.
-#[derive(Clone, Copy, PartialEq, Eq, Debug)]
+#[derive(Clone, Copy, PartialEq, Eq, Default, Debug)]
 pub struct PinSample {
     pub levels: u16,
     pub drive: u16,

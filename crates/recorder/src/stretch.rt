@@ -3,7 +3,7 @@ ghost use Rattle.recorder.specs.Kinds.{Kind, Script};
 ghost use Rattle.recorder.specs.Lines.{texted};
 
 // A longest row of alike samples: `length` ticks from tick `offset` on.
-#[derive(Clone, Copy, PartialEq, Eq, Debug)]
+#[derive(Clone, Copy, PartialEq, Eq, Default, Debug)]
 pub struct Stretch<S> {
     pub offset: u64,
     pub length: u64,
