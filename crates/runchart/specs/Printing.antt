@@ -1,5 +1,6 @@
 -- What is charted of an input, and printed.
-use Rattle.std.specs.Prelude.{ℕ, ◌+◌, ◌*◌, cond, List, ◌++◌, length, take, replicate, Some, None, Option, ◌==◌, slice_index}
+use Rattle.std.specs.Prelude.{◌≡◌, ℕ, cond, List, ◌++◌, length, take, drop, replicate, Some, None, Option, ◌==◌}
+use Rattle.std.specs.Int.{w32, from_le_bytes}
 use Rattle.std.specs.List.{flat_map}
 use Rattle.faults.specs.declared.Fault.TheVariants.{ImageSize}
 use Rattle.recorder.specs.Lines.{line_of, outcome_of}
@@ -11,7 +12,14 @@ use Rattle.runchart.specs.declared.print.Charted.{Charted}
 
 -- the four bytes behind an image, low byte first
 abbrev pub grant_of : List ℕ → ℕ
-grant_of input = slice_index input 2048 + 256 * slice_index input 2049 + 65536 * (slice_index input 2050 + 256 * slice_index input 2051)
+grant_of input = from_le_bytes w32 (drop 2048 input)
+
+-- an input is this image of 2,048 bytes, and this grant behind it
+pub record IsInput (input image : List ℕ) (grant : ℕ) : Type 0 where
+  pub size : length input ≡ 2052
+  pub whole : length image ≡ 2048
+  pub first : image ≡ take 2048 input
+  pub last : grant ≡ grant_of input
 
 -- a run from power-on with RAM of 0, before a host that shows 0
 abbrev pub charting : List ℕ → ℕ → Charts → Ran
@@ -36,5 +44,9 @@ printed_run r =
     ++ outcome_of r.ticks r.fault)
 
 -- an input of another size than an image and a grant is refused
+abbrev pub printed_of : Option Ran → List ℕ
+printed_of None = outcome_of 0 (Some ImageSize)
+printed_of (Some r) = printed_run r
+
 abbrev pub printed : List ℕ → Charts → List ℕ
-printed input c = cond (length input == 2052) (printed_run (charting (take 2048 input) (grant_of input) c)) (outcome_of 0 (Some ImageSize))
+printed input c = printed_of (input_run input c).0

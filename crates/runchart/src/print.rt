@@ -1,7 +1,7 @@
-ghost use Rattle.std.specs.Prelude.{◌≡◌, ◌≤◌, length, IfSome, IfOk};
+ghost use Rattle.std.specs.Prelude.{◌≡◌, ◌≢◌, ◌≤◌, length, IfSome, IfOk, MatchOption};
 ghost use Rattle.bench.specs.Charting.{both};
 ghost use Rattle.bench.specs.Runs.{answer};
-ghost use Rattle.runchart.specs.Printing.{grant_of, charting, run_of, input_run, printed};
+ghost use Rattle.runchart.specs.Printing.{IsInput, charting, run_of, input_run, printed};
 
 use bench::calls::RAM;
 use bench::chip::Chip;
@@ -18,14 +18,15 @@ use std::alloc::{AllocError, Global};
 // The bytes of an input: an image, and a grant of four bytes.
 pub const INPUT: usize = IMAGE + 4;
 
-// The grant behind an image, low byte first.
-fn grant_of(input: &[u8]) -> u64
-    requires { 2052 ≤ length input.now }
-    ensures { result ≡ grant_of input.now }
+// The image of an input, and the grant behind it, low byte first. None where it is not just these.
+fn read_input(input: &[u8]) -> Option<(&[u8], u64)>
+    ensures { MatchOption result (length input.now ≢ 2052) (λ x. IsInput input.now x.0.now x.1) }
 {
-    let low = input[IMAGE] as u64 + 256 * input[IMAGE + 1] as u64;
-    let high = input[IMAGE + 2] as u64 + 256 * input[IMAGE + 3] as u64;
-    low + 65536 * high
+    let (image, grant) = input.split_last_chunk()?;
+    if image.len() != IMAGE {
+        return None;
+    }
+    Some((image, u32::from_le_bytes(*grant) as u64))
 }
 
 // What a leap run from power-on answered, and the chip's record after it.
@@ -65,10 +66,8 @@ pub fn chart_input(
     ensures value { (run_of result (both pins.new modes.new), both pins.new modes.new) ≡ input_run input.now (both pins.old modes.old) }
     ensures places { IfSome result (λ x. (x.held.stretches.pins ≤ length pins.new) × (x.held.stretches.modes ≤ length modes.new)) }
 {
-    if input.len() != INPUT {
-        return None;
-    }
-    Some(chart_image(&input[0..IMAGE], grant_of(input), pins, modes))
+    let (image, grant) = read_input(input)?;
+    Some(chart_image(image, grant, pins, modes))
 }
 
 // The chart of an input as text: the lines of both charts, and the outcome. Another size than an image and a grant is refused.
@@ -81,11 +80,10 @@ pub fn print_chart(
     ensures { IfOk result (λ out. out.items ≡ printed input.now (both pins.old modes.old)) }
 {
     let mut out = Vec::new(heap);
-    if input.len() != INPUT {
+    let Some(charted) = chart_input(input, pins, modes) else {
         add_outcome(&mut out, 0, Some(Fault::ImageSize))?;
         return Ok(out);
-    }
-    let charted = chart_image(&input[0..IMAGE], grant_of(input), pins, modes);
+    };
     let counted_pins = charted.held.stretches.pins;
     let counted_modes = charted.held.stretches.modes;
     add_lines(&mut out, &pins[0..counted_pins])?;

@@ -4,11 +4,10 @@
 
 mod board;
 mod mixed;
-mod numbers;
 mod wiring;
 
 use anyhow::anyhow;
-use bench::held::Way;
+use bench::held::{Call, Way};
 use board::{Board, Places, Plan};
 use hosts::host::PinHost;
 use hosts::join::Join;
@@ -40,24 +39,32 @@ const FEW_MODES: Places = Places {
 // The even plans; the first is what the others are compared with.
 const PLANS: [Plan; 4] = [
     Plan {
-        way: Way::Ticks,
-        grants: 1,
-        grant: TOTAL,
+        call: Call {
+            way: Way::Ticks,
+            grant: TOTAL,
+        },
+        times: 1,
     },
     Plan {
-        way: Way::Leaps,
-        grants: 1,
-        grant: TOTAL,
+        call: Call {
+            way: Way::Leaps,
+            grant: TOTAL,
+        },
+        times: 1,
     },
     Plan {
-        way: Way::Ticks,
-        grants: 1000,
-        grant: TOTAL / 1000,
+        call: Call {
+            way: Way::Ticks,
+            grant: TOTAL / 1000,
+        },
+        times: 1000,
     },
     Plan {
-        way: Way::Leaps,
-        grants: 1000,
-        grant: TOTAL / 1000,
+        call: Call {
+            way: Way::Leaps,
+            grant: TOTAL / 1000,
+        },
+        times: 1000,
     },
 ];
 
@@ -66,7 +73,7 @@ const RESETS: usize = 2;
 
 // Prints whether a board is the same as the first.
 fn print_verdict(rt: &HostRuntime, board: &Board, first: &Board) -> anyhow::Result<()> {
-    let verdict = if board.is_same(rt.alloc(), first)? {
+    let verdict = if board.is_same(first) {
         "same"
     } else {
         "DIFFERENT"
@@ -104,25 +111,21 @@ fn play_uneven<P: PinHost>(
     first: &Board,
 ) -> anyhow::Result<()> {
     let mut board = Board::new(rt.alloc(), image, ROOMY)?;
-    let refused = play_mixed(rt.alloc(), &mut board, image, host)?;
+    let refused = play_mixed(&mut board, image, host);
     print!(rt; "mixed, {TURNS} grants, {refused} refusals: ")?;
     print_verdict(rt, &board, first)
 }
 
 // Prints how many stretches each mode has, and how often the watchdog reset the chip.
 fn print_events(rt: &HostRuntime, board: &Board) -> anyhow::Result<()> {
-    let mut running: usize = 0;
-    let mut napping: usize = 0;
-    let mut stopped: usize = 0;
     let counted = board.chip.held.stretches.modes;
-    for stretch in board.modes.iter().take(counted) {
-        let count = match stretch.sample {
-            Mode::Running => &mut running,
-            Mode::WakeUpTimer => &mut napping,
-            Mode::Stopped => &mut stopped,
-        };
-        *count = count.saturating_add(1);
-    }
+    let stretches_of = |mode: Mode| {
+        let modes = board.modes.iter().take(counted);
+        modes.filter(|stretch| stretch.sample == mode).count()
+    };
+    let running = stretches_of(Mode::Running);
+    let napping = stretches_of(Mode::WakeUpTimer);
+    let stopped = stretches_of(Mode::Stopped);
     let resets = board.chip.held.moment.machine.parts.memory.ram[RESETS];
     println!(rt; "stretches of R: {running}, W: {napping}, S: {stopped}")?;
     println!(rt; "resets by the watchdog: {resets}")?;
@@ -135,12 +138,9 @@ fn main(rt: HostRuntime) -> anyhow::Result<()> {
     let image = bytes.as_slice();
     let pulses = door_pulses(rt.alloc())?;
     let mut door = PulseList::new();
-    let Ok(()) = door.set(DOOR, pulses.as_slice()) else {
-        return Err(anyhow!("the door's pulses are refused"));
-    };
-    let Ok(fan) = tacho() else {
-        return Err(anyhow!("the tacho's wave is refused"));
-    };
+    door.set(DOOR, pulses.as_slice())
+        .map_err(|_| anyhow!("the door's pulses are refused"))?;
+    let fan = tacho().map_err(|_| anyhow!("the tacho's wave is refused"))?;
     let host = Join {
         left: door,
         right: fan,

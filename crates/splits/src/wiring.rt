@@ -19,7 +19,7 @@ pub fn door_pulses(heap: Global) -> Result<Vec<Pulse>, AllocError> {
     for k in 0..OPENINGS {
         pulses.push(Pulse {
             offset: 3000 + 7400 * k + 1237 * k % 3000,
-            length: LENGTHS[(k % 7) as usize],
+            length: LENGTHS[k as usize % LENGTHS.len()],
         })?;
     }
     Ok(pulses)

@@ -1,22 +1,12 @@
 use bench::calls::RAM;
 use bench::chip::Chip;
-use bench::held::{Held, Moment, Stretches};
+use bench::held::{Call, Held, Moment, Stretches, Way};
 use bench::run::{IMAGE, Run};
 use faults::Fault;
 use hosts::steady::Steady;
 use recorder::mode::Mode;
-use recorder::pin_sample::PinSample;
 use recorder::stretch::Stretch;
 use std::process::Abort;
-
-const NO_PINS: Stretch<PinSample> = Stretch {
-    offset: 0,
-    length: 0,
-    sample: PinSample {
-        levels: 0,
-        drive: 0,
-    },
-};
 
 // `length` ticks of running, from tick 0 on.
 fn running(length: u64) -> Stretch<Mode> {
@@ -30,10 +20,8 @@ fn running(length: u64) -> Stretch<Mode> {
 // Code at F800, the reset word F800, and FF elsewhere.
 fn image(code: &[u8]) -> [u8; IMAGE] {
     let mut image = [0xff; IMAGE];
-    for (i, byte) in code.iter().enumerate() {
-        if i < IMAGE {
-            image[i] = *byte;
-        }
+    for (place, byte) in image.iter_mut().zip(code) {
+        *place = *byte;
     }
     image[0x7fe] = 0x00;
     image[0x7ff] = 0xf8;
@@ -41,28 +29,25 @@ fn image(code: &[u8]) -> [u8; IMAGE] {
 }
 
 // What a run of 100 ticks answers: two NOPs, and then this code.
-fn stop(code: [u8; 3], by_leaps: bool) -> Run {
-    let image = image(&[0xff, 0xff, code[0], code[1], code[2]]);
+fn stop(code: [u8; 3], way: Way) -> Run {
+    let [first, second, third] = code;
+    let image = image(&[0xff, 0xff, first, second, third]);
     let mut chip = Chip::new();
     let _ = chip.power_on(&image, [0; RAM]);
-    let mut pins = [NO_PINS; 4];
-    let mut modes = [running(0); 4];
-    let host = Steady::new(0);
-    if by_leaps {
-        chip.leap_run(&image, &host, 100, &mut pins, &mut modes)
-    } else {
-        chip.tick_run(&image, &host, 100, &mut pins, &mut modes)
-    }
+    let mut pins = [Stretch::default(); 4];
+    let mut modes = [Stretch::default(); 4];
+    let call = Call { way, grant: 100 };
+    chip.run(&image, &Steady::new(0), call, &mut pins, &mut modes)
 }
 
 // Both runs stop at F802, after the eight ticks of the NOPs.
 fn check_stop(rt: &impl Abort, code: [u8; 3], fault: Fault) {
-    let ticks = stop(code, false);
-    let leaps = stop(code, true);
-    assert_eq!(rt; ticks.ticks, 8);
-    assert_eq!(rt; leaps.ticks, 8);
-    assert_eq!(rt; ticks.fault, Some(fault));
-    assert_eq!(rt; leaps.fault, Some(fault));
+    let stopped = Run {
+        ticks: 8,
+        fault: Some(fault),
+    };
+    assert_eq!(rt; stop(code, Way::Ticks), stopped);
+    assert_eq!(rt; stop(code, Way::Leaps), stopped);
 }
 
 #[test]
@@ -98,7 +83,7 @@ fn stops_of_runs(rt: HostRuntime) {
 fn refusals_of_runs(rt: HostRuntime) {
     let image = image(&[0x2f, 0xfe]);
     let host = Steady::new(0);
-    let mut pins = [NO_PINS; 4];
+    let mut pins = [Stretch::default(); 4];
     let mut modes = [running(0); 4];
     let mut chip = Chip::new();
     assert_eq!(rt;
@@ -110,8 +95,11 @@ fn refusals_of_runs(rt: HostRuntime) {
     assert_eq!(rt; ten.ticks, 10);
     modes[0] = running(9);
     let unfit = chip.leap_run(&image, &host, 1, &mut pins, &mut modes);
-    assert_eq!(rt; unfit.ticks, 0);
-    assert_eq!(rt; unfit.fault, Some(Fault::ModeChartUnfit));
+    let refused = Run {
+        ticks: 0,
+        fault: Some(Fault::ModeChartUnfit),
+    };
+    assert_eq!(rt; unfit, refused);
     modes[0] = running(10);
     let long = chip.tick_run(&image, &host, (1 << 32) + 1, &mut pins, &mut modes);
     assert_eq!(rt; long.fault, Some(Fault::GrantTooLarge));
@@ -123,7 +111,7 @@ fn end_of_time(rt: HostRuntime) {
     let image = image(&[0x2f, 0xfe]);
     let host = Steady::new(0);
     let last = (1 << 48) - 1;
-    let mut pins = [NO_PINS; 4];
+    let mut pins = [Stretch::default(); 4];
     pins[0].length = last;
     let mut modes = [running(last); 4];
     let mut chip = Chip::new();
@@ -138,7 +126,10 @@ fn end_of_time(rt: HostRuntime) {
     let spent = chip.tick_run(&image, &host, 2, &mut pins, &mut modes);
     assert_eq!(rt; spent.fault, Some(Fault::ChipSpent));
     let one = chip.leap_run(&image, &host, 1, &mut pins, &mut modes);
-    assert_eq!(rt; one.ticks, 1);
-    assert_eq!(rt; one.fault, None);
+    let whole = Run {
+        ticks: 1,
+        fault: None,
+    };
+    assert_eq!(rt; one, whole);
     assert_eq!(rt; pins[0].length, 1 << 48);
 }

@@ -17,17 +17,7 @@ fn fresh() -> Machine {
         parts: Parts {
             registers,
             memory: Memory { ram: [0; 128] },
-            ports: Ports {
-                ra: 0,
-                rb: 0,
-                rc: 0,
-                raio: 0,
-                rbio: 0,
-                rcio: 0,
-                rafunc: 0,
-                rbfunc: 0,
-                pupsel: 0,
-            },
+            ports: Ports::default(),
             timers: Timers::new(),
             buzzer: Buzzer::new(0xff),
             basic: BasicTimer::new(),
@@ -90,8 +80,6 @@ fn ticks_and_moves(rt: HostRuntime) {
     let mut leaping = m;
     leaping.run_on(7);
     assert_eq!(rt; play(&mut m, 7), Ok(()));
-    assert_eq!(rt; m.owed, leaping.owed);
-    assert_eq!(rt; m.prescaler, leaping.prescaler);
-    assert_eq!(rt; m.parts.buzzer.count, leaping.parts.buzzer.count);
+    assert_eq!(rt; m, leaping);
     assert_eq!(rt; m.still(), Some(0));
 }
