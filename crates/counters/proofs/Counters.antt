@@ -1,10 +1,16 @@
 -- A counter modulo M on a divider 2^s, for every M and s.
-use Rattle.std.proofs.Common.{◌≡◌, ℕ, ◌+◌, ◌-◌, ◌%◌, ◌^◌, ◌<◌, ◌≤◌, Bool, true, false, cond, ◌&&◌, eqb, ◌⊎◌, sym, refl, ap, ◌∙◌, inl, inr, mod-eq_of_lt, arith}
+use Rattle.std.proofs.Common.{◌≡◌, ℕ, ◌+◌, ◌-◌, ◌%◌, ◌^◌, ◌<◌, ◌≤◌, Bool, true, false, cond, ◌&&◌, eqb, ◌⊎◌, sym, refl, ap, add-zero, ◌∙◌, inl, inr, mod-eq_of_lt, arith}
 use native.Mathlib.Nat.{mod-eq-sub-mod, mod-add-mod}
 use Rattle.std.proofs.lemmas.Bool.{eqb-true, eqb-false, eq-eqb, ne_eqb, and_from, cases_lt}
 use Rattle.counters.specs.Counting.{pulse, counted, pulses_in, run_on, gap, still_for}
 use Rattle.counters.specs.Quiet.{prescaled}
-use Rattle.counters.proofs.Dividers.{more_pulse, same_pulse, no_pulse, wrapped, pulses_before, pulse_after}
+use Rattle.counters.proofs.Dividers.{more_pulse, same_pulse, wrapped, pulses_before, pulse_after}
+
+-- no ticks leave a count
+pub run_none : (M c : ℕ) → c < M → (s p : ℕ) → run_on M s p 0 c ≡ c
+run_none M c cb s p =
+    let e : c + pulses_in s p 0 ≡ c = rw add-zero (omega arith) in
+    ap (λ n. n % M) e ∙ mod-eq_of_lt cb
 
 module _ (M c l : ℕ) (cb : c < M) (lb : l < M) where
   -- the gap, without remainders
@@ -33,9 +39,6 @@ module _ (M c l : ℕ) (cb : c < M) (lb : l < M) where
       ]
 
   module _ (s p : ℕ) (sb : s ≤ 11) where
-    pub run_none : run_on M s p 0 c ≡ c
-    run_none = let z = no_pulse s p in let e : c + pulses_in s p 0 ≡ c = omega arith in ap (λ n. n % M) e ∙ mod-eq_of_lt cb
-
     sum : (j : ℕ) → prescaled p (j + 1) % 2 ^ s ≡ (p + j + 1) % 2 ^ s
     sum j = wrapped s (p + (j + 1)) sb ∙ (let e : p + (j + 1) ≡ p + j + 1 = omega arith in ap (λ n. n % 2 ^ s) e)
 

@@ -1,7 +1,6 @@
 -- The pulses of a divider, for every divider.
-use Rattle.std.proofs.Common.{◌≡◌, ℕ, zero, suc, ◌+◌, ◌-◌, ◌*◌, ◌/◌, ◌%◌, ◌^◌, ◌<◌, ◌≤◌, sym, refl, ap, ◌∙◌, mod-lt, div-lt_iff_lt-mul, add-mul, div-add-mod', le-div_iff_mul-le, zero-mul, div-mul-le_self, arith}
-use native.Mathlib.Nat.{mul-add-div_right, dvd_of_mod-eq-zero, mod-mod_of_dvd, mul-mod_left}
-use lib.Arith.{digits_div}
+use Rattle.std.proofs.Common.{◌≡◌, ℕ, ◌+◌, ◌-◌, ◌*◌, ◌/◌, ◌%◌, ◌^◌, ◌<◌, ◌≤◌, sym, ap, ◌∙◌, mod-lt, div-lt_iff_lt-mul, add-mul, div-add-mod', le-div_iff_mul-le, div-mul-le_self, arith}
+use native.Mathlib.Nat.{mul-add-div_right, div-eq_of_lt-le, add-div_right, lt-div-mul-add, dvd_of_mod-eq-zero, mod-mod_of_dvd, mul-mod_left}
 use Rattle.std.proofs.lemmas.Nat.{mul-le, pow_pos, pow-add}
 use Rattle.counters.specs.Counting.{pulses_in, before_pulse}
 
@@ -24,22 +23,16 @@ pulses_few d p k pos =
 
 -- from one number to the next the quotient grows by 1 at a multiple, and stays elsewhere
 div_pulse : (d n : ℕ) → 0 < d → (n + 1) % d ≡ 0 → (n + 1) / d ≡ n / d + 1
-div_pulse d n pos e = go ((n + 1) / d) refl (omega (arith, div-add-mod' (n + 1) d))
-  where
-    go : (q : ℕ) → (n + 1) / d ≡ q → q * d ≡ n + 1 → (n + 1) / d ≡ n / d + 1
-    go zero eq w = absurd (omega (arith, zero-mul d))
-    go (suc q) eq w =
-        let s : suc q * d ≡ q * d + d = omega (arith, add-mul q 1 d) in
-        let below : n ≡ q * d + (d - 1) = omega arith in
-        let v : n / d ≡ q = ap (λ x. x / d) below ∙ digits_div q (omega arith) in
-        omega arith
+div_pulse d n pos e =
+    let whole = div-add-mod' (n + 1) d in
+    let q : (n + d) / d ≡ (n + 1) / d = div-eq_of_lt-le d (omega arith) (omega (arith, add-mul ((n + 1) / d) 1 d)) in
+    sym q ∙ add-div_right n pos
 
 div_idle : (d n : ℕ) → 0 < d → ((n + 1) % d ≡ 0 → ⊥) → (n + 1) / d ≡ n / d
 div_idle d n pos ne =
-    let some : 0 < (n + 1) % d = omega arith in
+    let whole = div-add-mod' (n + 1) d in
     let small = mod-lt (n + 1) pos in
-    let below : n ≡ (n + 1) / d * d + ((n + 1) % d - 1) = omega (arith, div-add-mod' (n + 1) d) in
-    sym (ap (λ x. x / d) below ∙ digits_div ((n + 1) / d) (omega arith))
+    sym (div-eq_of_lt-le d (omega arith) (omega (arith, add-mul ((n + 1) / d) 1 d)))
 
 div_more : (d p k : ℕ) → 0 < d → p / d ≤ (p + k) / d
 div_more d p k pos = (le-div_iff_mul-le pos).1 (omega (arith, div-mul-le_self p d))
@@ -47,44 +40,33 @@ div_more d p k pos = (le-div_iff_mul-le pos).1 (omega (arith, div-mul-le_self p 
 -- one tick more: one pulse more where the sum is a multiple, else none
 pub more_pulse : (s p j : ℕ) → (p + j + 1) % 2 ^ s ≡ 0 → pulses_in s p (j + 1) ≡ pulses_in s p j + 1
 more_pulse s p j e =
-    let a : p + (j + 1) ≡ p + j + 1 = omega arith in
-    let q : (p + (j + 1)) / 2 ^ s ≡ (p + j) / 2 ^ s + 1 = ap (λ x. x / 2 ^ s) a ∙ div_pulse (2 ^ s) (p + j) (pow_pos s) e in
-    omega (arith, div_more (2 ^ s) p j (pow_pos s))
+    let a : (p + (j + 1)) / 2 ^ s ≡ (p + j + 1) / 2 ^ s = ap (λ n. n / 2 ^ s) (omega arith) in
+    omega (arith, div_pulse (2 ^ s) (p + j) (pow_pos s) e, div_more (2 ^ s) p j (pow_pos s))
 
 pub same_pulse : (s p j : ℕ) → ((p + j + 1) % 2 ^ s ≡ 0 → ⊥) → pulses_in s p (j + 1) ≡ pulses_in s p j
 same_pulse s p j ne =
-    let a : p + (j + 1) ≡ p + j + 1 = omega arith in
-    let q : (p + (j + 1)) / 2 ^ s ≡ (p + j) / 2 ^ s = ap (λ x. x / 2 ^ s) a ∙ div_idle (2 ^ s) (p + j) (pow_pos s) ne in
-    omega arith
-
-pub no_pulse : (s p : ℕ) → pulses_in s p 0 ≡ 0
-no_pulse s p = let e : p + 0 ≡ p = omega arith in let q = ap (λ x. x / 2 ^ s) e in omega arith
+    let a : (p + (j + 1)) / 2 ^ s ≡ (p + j + 1) / 2 ^ s = ap (λ n. n / 2 ^ s) (omega arith) in
+    omega (arith, div_idle (2 ^ s) (p + j) (pow_pos s) ne)
 
 -- the wrapped prescaler is a multiple where the whole sum is
 pub wrapped : (s n : ℕ) → s ≤ 11 → n % 2048 % 2 ^ s ≡ n % 2 ^ s
-wrapped s n h = mod-mod_of_dvd (2 ^ s) n (dvd_of_mod-eq-zero (2 ^ s) (whole s h))
-  where
-    whole : (s : ℕ) → s ≤ 11 → 2048 % 2 ^ s ≡ 0
-    whole s h =
-        let e : 11 - s + s ≡ 11 = omega arith in
-        let q : 2048 ≡ 2 ^ (11 - s) * 2 ^ s = ap (λ k. 2 ^ k) (sym e) ∙ pow-add 2 (11 - s) s in
-        ap (λ n. n % 2 ^ s) q ∙ mul-mod_left (2 ^ (11 - s)) (2 ^ s)
+wrapped s n h =
+    let e : 11 ≡ 11 - s + s = omega arith in
+    let whole : 2048 ≡ 2 ^ (11 - s) * 2 ^ s = ap (λ k. 2 ^ k) e ∙ pow-add 2 (11 - s) s in
+    mod-mod_of_dvd (2 ^ s) n (dvd_of_mod-eq-zero (2 ^ s) (ap (λ n. n % 2 ^ s) whole ∙ mul-mod_left (2 ^ (11 - s)) (2 ^ s)))
 
 -- before the pulse that follows g others there are at most g, and at it there have been just g
 pub pulses_before : (s p k g : ℕ) → k ≤ before_pulse s p g → pulses_in s p k ≤ g
 pulses_before s p k g h =
     let pos = pow_pos s in
-    let top : p < (p / 2 ^ s + 1) * 2 ^ s = omega (arith, div-add-mod' p (2 ^ s), mod-lt p pos, add-mul (p / 2 ^ s) 1 (2 ^ s)) in
     let more = mul-le (p / 2 ^ s + 1) (2 ^ s) (p / 2 ^ s + g + 1) (2 ^ s) (omega arith) (omega arith) in
-    let q : (p + k) / 2 ^ s < p / 2 ^ s + g + 1 = (div-lt_iff_lt-mul pos).1 (omega arith) in
+    let q : (p + k) / 2 ^ s < p / 2 ^ s + g + 1 = (div-lt_iff_lt-mul pos).1 (omega (arith, lt-div-mul-add {a = p} pos, add-mul (p / 2 ^ s) 1 (2 ^ s))) in
     omega arith
 
 pub pulse_after : (s p g : ℕ) → (pulses_in s p (before_pulse s p g) ≡ g) × ((p + before_pulse s p g + 1) % 2 ^ s ≡ 0)
 pulse_after s p g =
     let pos = pow_pos s in
-    let top : p < (p / 2 ^ s + 1) * 2 ^ s = omega (arith, div-add-mod' p (2 ^ s), mod-lt p pos, add-mul (p / 2 ^ s) 1 (2 ^ s)) in
     let more = mul-le (p / 2 ^ s + 1) (2 ^ s) (p / 2 ^ s + g + 1) (2 ^ s) (omega arith) (omega arith) in
-    let at : p + before_pulse s p g + 1 ≡ (p / 2 ^ s + g + 1) * 2 ^ s = omega arith in
-    let last : p + before_pulse s p g ≡ (p / 2 ^ s + g) * 2 ^ s + (2 ^ s - 1) = omega (arith, add-mul (p / 2 ^ s + g) 1 (2 ^ s)) in
-    let q : (p + before_pulse s p g) / 2 ^ s ≡ p / 2 ^ s + g = ap (λ x. x / 2 ^ s) last ∙ digits_div (p / 2 ^ s + g) (omega arith) in
+    let at : p + before_pulse s p g + 1 ≡ (p / 2 ^ s + g + 1) * 2 ^ s = omega (arith, lt-div-mul-add {a = p} pos, add-mul (p / 2 ^ s) 1 (2 ^ s)) in
+    let q : (p + before_pulse s p g) / 2 ^ s ≡ p / 2 ^ s + g = div-eq_of_lt-le (2 ^ s) (omega (arith, add-mul (p / 2 ^ s + g) 1 (2 ^ s))) (omega arith) in
     (omega arith, ap (λ x. x % 2 ^ s) at ∙ mul-mod_left (p / 2 ^ s + g + 1) (2 ^ s))

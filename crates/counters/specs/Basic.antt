@@ -24,13 +24,13 @@ at_limit b = b.watchdog == b.wdtr % 128
 abbrev pub basic_ticked : Mode → ℕ → BasicTimer → BasicTimer × Passing
 basic_ticked mode p b =
     let passed : Bool = passes mode p b in (
-      basic b.control (cond (awake mode && pulse (basic_shift b) p) (counted 256 255 b.bitr) b.bitr) b.wdtr (cond passed (counted 128 (b.wdtr % 128) b.watchdog) b.watchdog),
+      record b { bitr = cond (awake mode && pulse (basic_shift b) p) (counted 256 255 b.bitr) b.bitr; watchdog = cond passed (counted 128 (b.wdtr % 128) b.watchdog) b.watchdog },
       record { passed = passed; watchdog = passed && at_limit b },
     )
 
 -- after k ticks without a passing, from prescaler p
 abbrev pub basic_moved : Mode → ℕ → ℕ → BasicTimer → BasicTimer
-basic_moved mode p k b = cond (awake mode) (basic b.control (run_on 256 (basic_shift b) p k b.bitr) b.wdtr b.watchdog) b
+basic_moved mode p k b = cond (awake mode) (record b { bitr = run_on 256 (basic_shift b) p k b.bitr }) b
 
 -- the ticks before a passing
 abbrev pub basic_still : Mode → ℕ → BasicTimer → Option ℕ
@@ -38,8 +38,8 @@ basic_still mode p b = cond (awake mode) (Some (still_for 256 (basic_shift b) p 
 
 -- a write of CKCTLR: BTCL, bit 3, clears BITR and is not kept, and bit 7 is not there
 abbrev pub basic_set : ℕ → BasicTimer → BasicTimer
-basic_set v b = basic (bit_and v 0x77) (cond (bit_and v 8 == 8) 0 b.bitr) b.wdtr b.watchdog
+basic_set v b = record b { control = bit_and v 0x77; bitr = cond (bit_and v 8 == 8) 0 b.bitr }
 
 -- a write of WDTR: WDTCL, bit 7, clears the watchdog's count and is not kept
 abbrev pub watchdog_set : ℕ → BasicTimer → BasicTimer
-watchdog_set v b = basic b.control b.bitr (v % 128) (cond (bit_and v 128 == 128) 0 b.watchdog)
+watchdog_set v b = record b { wdtr = v % 128; watchdog = cond (bit_and v 128 == 128) 0 b.watchdog }

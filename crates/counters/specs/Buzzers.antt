@@ -1,11 +1,8 @@
 -- The buzzer.
-use Rattle.std.specs.Prelude.{ℕ, ◌+◌, ◌/◌, ◌%◌, Bool, false, cond, ◌&&◌, Some, None, Option, ◌==◌}
+use Rattle.std.specs.Prelude.{ℕ, ◌+◌, ◌/◌, ◌%◌, false, cond, ◌&&◌, Some, None, Option, ◌==◌}
 use Rattle.recorder.specs.declared.mode.Mode.{Mode}
 use Rattle.counters.specs.declared.buzzer.Buzzer.{Buzzer}
 use Rattle.counters.specs.Counting.{awake, flip, pulse, counted, run_on, still_for}
-
-abbrev pub buzzer : ℕ → ℕ → Bool → Buzzer
-buzzer bur count level = record { bur = bur; count = count; level = level }
 
 -- BUCK, bits 7 and 6 of BUR: divider 8 × 2^BUCK
 abbrev pub buzzer_shift : Buzzer → ℕ
@@ -17,7 +14,7 @@ buzzer_limit b = b.bur % 64
 
 -- a pulse; a match turns the level
 abbrev pub buzzer_pulsed : Buzzer → Buzzer
-buzzer_pulsed b = buzzer b.bur (counted 64 (buzzer_limit b) b.count) (flip (b.count == buzzer_limit b) b.level)
+buzzer_pulsed b = record b { count = counted 64 (buzzer_limit b) b.count; level = flip (b.count == buzzer_limit b) b.level }
 
 -- after a tick at a prescaler; it counts awake only
 abbrev pub buzzer_ticked : Mode → ℕ → Buzzer → Buzzer
@@ -25,7 +22,7 @@ buzzer_ticked mode p b = cond (awake mode && pulse (buzzer_shift b) p) (buzzer_p
 
 -- after k ticks without a match, from prescaler p
 abbrev pub buzzer_moved : Mode → ℕ → ℕ → Buzzer → Buzzer
-buzzer_moved mode p k b = cond (awake mode) (buzzer b.bur (run_on 64 (buzzer_shift b) p k b.count) b.level) b
+buzzer_moved mode p k b = cond (awake mode) (record b { count = run_on 64 (buzzer_shift b) p k b.count }) b
 
 -- the ticks before a match
 abbrev pub buzzer_still : Mode → ℕ → Buzzer → Option ℕ
@@ -33,4 +30,4 @@ buzzer_still mode p b = cond (awake mode) (Some (still_for 64 (buzzer_shift b) p
 
 -- a write of BUR clears count and level
 abbrev pub buzzer_set : ℕ → Buzzer
-buzzer_set v = buzzer v 0 false
+buzzer_set v = record { bur = v; count = 0; level = false }

@@ -1,13 +1,12 @@
 -- Counters on the dividers of the prescaler.
-use Rattle.std.specs.Prelude.{ℕ, ◌+◌, ◌-◌, ◌*◌, ◌/◌, ◌%◌, ◌^◌, Bool, true, false, cond, not, Some, None, Option, ◌==◌, nat_lt}
+use Rattle.std.specs.Prelude.{ℕ, ◌+◌, ◌-◌, ◌*◌, ◌/◌, ◌%◌, ◌^◌, Bool, true, false, cond, not, Some, None, Option, ◌==◌, min}
 use Rattle.recorder.specs.declared.mode.Mode.{Mode}
-use Rattle.recorder.specs.declared.mode.Mode.TheVariants.{Running, WakeUpTimer, Stopped}
+use Rattle.recorder.specs.declared.mode.Mode.TheVariants.{Running}
 
 -- timers, buzzer and basic timer count awake; what counts asleep is told with the timers
 abbrev pub awake : Mode → Bool
 awake Running = true
-awake WakeUpTimer = false
-awake Stopped = false
+awake _ = false
 
 -- a level that a match turns
 abbrev pub flip : Bool → Bool → Bool
@@ -46,4 +45,4 @@ still_for M s p limit count = before_pulse s p (gap M limit count)
 abbrev pub fewer : Option ℕ → Option ℕ → Option ℕ
 fewer None q = q
 fewer (Some u) None = Some u
-fewer (Some u) (Some v) = Some (cond (nat_lt u v) u v)
+fewer (Some u) (Some v) = Some (min u v)

@@ -1,19 +1,13 @@
 -- Timer 0 and Timer 1.
-use Rattle.std.specs.Prelude.{ℕ, ◌/◌, ◌%◌, ◌≤◌, Bool, false, cond, ◌&&◌, [], ◌∷◌, Some, None, Option, ◌==◌, slice_index_or, slice_set}
+use Rattle.std.specs.Prelude.{ℕ, ◌/◌, ◌%◌, Bool, false, cond, ◌&&◌, [], ◌∷◌, Some, None, Option, ◌==◌, slice_index_or, slice_set}
 use Rattle.recorder.specs.declared.mode.Mode.{Mode}
-use Rattle.recorder.specs.declared.mode.Mode.TheVariants.{Running, WakeUpTimer, Stopped}
+use Rattle.recorder.specs.declared.mode.Mode.TheVariants.{Running, WakeUpTimer}
 use Rattle.counters.specs.declared.timer.Timer.{Timer}
 use Rattle.counters.specs.declared.timer.Timers.{Timers}
 use Rattle.counters.specs.declared.timer.Matches.{Matches}
 use Rattle.counters.specs.declared.timer.Source.{Source}
 use Rattle.counters.specs.declared.timer.Source.TheVariants.{Divider, Event, Held}
 use Rattle.counters.specs.Counting.{awake, flip, pulse, counted, run_on, still_for, fewer}
-
--- a divider of the prescaler is 1 to 2048
-abbrev pub Sane : Source → Type 0
-Sane (Divider n) = n ≤ 11
-Sane Event = Unit {0}
-Sane Held = Unit {0}
 
 abbrev pub timer : ℕ → ℕ → ℕ → Timer
 timer control limit count = record { control = control; limit = limit; count = count }
@@ -38,9 +32,7 @@ source1 zero control = slice_index_or (Divider 0 ∷ Divider 1 ∷ Divider 3 ∷
 abbrev pub drive0 : Mode → Source → Source
 drive0 Running s = s
 drive0 WakeUpTimer (Divider n) = cond (n == 11) (Divider n) Held
-drive0 WakeUpTimer Event = Held
-drive0 WakeUpTimer Held = Held
-drive0 Stopped s = Held
+drive0 _ s = Held
 
 -- Timer 1 counts awake only
 abbrev pub drive1 : Mode → Source → Source
@@ -58,19 +50,17 @@ pulses Held p rises = false
 
 -- a timer after a tick, and whether it matched
 abbrev pub timer_ticked : Bool → Timer → Timer × Bool
-timer_ticked on t = (timer t.control t.limit (cond on (counted 256 t.limit t.count) t.count), on && t.count == t.limit)
+timer_ticked on t = (record t { count = cond on (counted 256 t.limit t.count) t.count }, on && t.count == t.limit)
 
 -- a timer after k ticks without a match or a rise of EC0, from prescaler p
 abbrev pub timer_moved : Source → ℕ → ℕ → Timer → Timer
-timer_moved (Divider n) p k t = timer t.control t.limit (run_on 256 n p k t.count)
-timer_moved Event p k t = t
-timer_moved Held p k t = t
+timer_moved (Divider n) p k t = record t { count = run_on 256 n p k t.count }
+timer_moved _ p k t = t
 
 -- the ticks before it matches, from prescaler p, while EC0 does not rise
 abbrev pub timer_still : Source → ℕ → Timer → Option ℕ
 timer_still (Divider n) p t = Some (still_for 256 n p t.limit t.count)
-timer_still Event p t = None
-timer_still Held p t = None
+timer_still _ p t = None
 
 -- Timer 0 and Timer 1 of the pair, with what drives them
 abbrev pub at : Timers → ℕ → Timer
@@ -102,7 +92,7 @@ timers_still mode p ts = fewer (timer_still (of0 mode ts) p (at ts 0)) (timer_st
 
 -- a write of TM; one with ST set clears the count
 abbrev pub timer_set : ℕ → Timer → Timer
-timer_set v t = timer v t.limit (cond (v % 2 == 1) 0 t.count)
+timer_set v t = record t { control = v; count = cond (v % 2 == 1) 0 t.count }
 
 abbrev pub timers_reset : Timers
 timers_reset = record { pair = timer_reset ∷ timer_reset ∷ []; comp = false }

@@ -1,8 +1,9 @@
-ghost use Rattle.std.specs.Prelude.{◌≡◌, ◌≤◌};
+ghost use Rattle.std.specs.Prelude.{◌≡◌};
 ghost use Rattle.counters.specs.Basic.{basic, basic_shift, basic_ticked, basic_moved, basic_still, basic_set, watchdog_set};
 ghost use Rattle.counters.specs.Quiet.{Longest, BasicQuiet};
 
-use crate::divider::{is_pulse, pulses_in, ticks_before};
+use crate::count::counted;
+use crate::divider::Divider;
 use crate::mode::is_awake;
 use recorder::mode::Mode;
 
@@ -63,28 +64,25 @@ impl BasicTimer {
         }
     }
 
-    // The divider is 8 × 2^BTS.
-    fn shift(&self) -> u8
-        ensures value { result ≡ basic_shift self.now }
-        ensures small { result ≤ 11 }
+    // The divider, 8 × 2^BTS.
+    fn divider(&self) -> Divider
+        ensures { result ≡ basic_shift self.now }
     {
-        3 + self.control % 8
+        Divider::new(3 + self.control % 8)
     }
 
     // One tick, at the prescaler that it has reached.
     pub fn tick(&mut self, mode: Mode, prescaler: u16) -> Passing
         ensures { (self.new, result) ≡ basic_ticked mode prescaler self.old }
     {
-        let on = is_awake(mode) && is_pulse(self.shift(), prescaler);
+        let on = is_awake(mode) && self.divider().is_pulse(prescaler);
         let passed = on && self.bitr == 0xff;
         let watchdog = passed && self.watchdog == self.wdtr % 128;
         if on {
             self.bitr = self.bitr.wrapping_add(1);
         }
-        if watchdog {
-            self.watchdog = 0;
-        } else if passed {
-            self.watchdog = (self.watchdog % 128 + 1) % 128;
+        if passed {
+            self.watchdog = counted::<128>(self.wdtr % 128, self.watchdog);
         }
         Passing { passed, watchdog }
     }
@@ -94,8 +92,7 @@ impl BasicTimer {
         ensures { self.new ≡ basic_moved mode prescaler ticks self.old }
     {
         if is_awake(mode) {
-            let pulses = (pulses_in(self.shift(), prescaler, ticks) % 256) as u8;
-            self.bitr = self.bitr.wrapping_add(pulses);
+            self.bitr = self.divider().run_on::<256>(prescaler, ticks, self.bitr);
         }
     }
 
@@ -105,10 +102,9 @@ impl BasicTimer {
         ensures longest { Longest result (BasicQuiet mode prescaler self.now) }
         ensures starts { basic_moved mode prescaler 0 self.now ≡ self.now }
     {
-        let gap = 0xff - self.bitr;
         if !is_awake(mode) {
             return None;
         }
-        Some(ticks_before(self.shift(), prescaler, gap))
+        Some(self.divider().still_for::<256>(prescaler, 0xff, self.bitr))
     }
 }

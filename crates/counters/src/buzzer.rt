@@ -1,8 +1,9 @@
-ghost use Rattle.std.specs.Prelude.{◌≡◌, ◌<◌, ◌≤◌};
+ghost use Rattle.std.specs.Prelude.{◌≡◌, ◌<◌};
 ghost use Rattle.counters.specs.Buzzers.{buzzer_shift, buzzer_ticked, buzzer_moved, buzzer_still, buzzer_set};
 ghost use Rattle.counters.specs.Quiet.{Longest, BuzzerQuiet};
 
-use crate::divider::{is_pulse, pulses_in, ticks_before};
+use crate::count::counted;
+use crate::divider::Divider;
 use crate::mode::is_awake;
 use recorder::mode::Mode;
 
@@ -26,27 +27,25 @@ impl Buzzer {
         }
     }
 
-    // The divider is 8 × 2^BUCK.
-    fn shift(&self) -> u8
-        ensures value { result ≡ buzzer_shift self.now }
-        ensures small { result ≤ 11 }
+    // The divider, 8 × 2^BUCK.
+    fn divider(&self) -> Divider
+        ensures { result ≡ buzzer_shift self.now }
     {
-        3 + (self.bur >> 6)
+        Divider::new(3 + (self.bur >> 6))
     }
 
     // One tick, at the prescaler that it has reached.
     pub fn tick(&mut self, mode: Mode, prescaler: u16)
         ensures { self.new ≡ buzzer_ticked mode prescaler self.old }
     {
-        if !is_awake(mode) || !is_pulse(self.shift(), prescaler) {
+        if !is_awake(mode) || !self.divider().is_pulse(prescaler) {
             return;
         }
-        if self.count == self.bur % 64 {
-            self.count = 0;
+        let limit = self.bur % 64;
+        if self.count == limit {
             self.level = !self.level;
-        } else {
-            self.count = (self.count % 64 + 1) % 64;
         }
+        self.count = counted::<64>(limit, self.count);
     }
 
     // `ticks` ticks without a match, from the prescaler before them.
@@ -54,8 +53,7 @@ impl Buzzer {
         ensures { self.new ≡ buzzer_moved mode prescaler ticks self.old }
     {
         if is_awake(mode) {
-            let pulses = (pulses_in(self.shift(), prescaler, ticks) % 64) as u8;
-            self.count = (self.count % 64 + pulses) % 64;
+            self.count = self.divider().run_on::<64>(prescaler, ticks, self.count);
         }
     }
 
@@ -68,7 +66,7 @@ impl Buzzer {
         if !is_awake(mode) {
             return None;
         }
-        let gap = (self.bur % 64 + 64 - self.count % 64) % 64;
-        Some(ticks_before(self.shift(), prescaler, gap))
+        let limit = self.bur % 64;
+        Some(self.divider().still_for::<64>(prescaler, limit, self.count))
     }
 }

@@ -4,7 +4,8 @@
 
 pub mod basic;
 pub mod buzzer;
-mod divider;
+mod count;
+pub mod divider;
 mod mode;
 pub mod span;
 pub mod timer;

@@ -7,9 +7,5 @@ use recorder::mode::Mode;
 pub(crate) fn is_awake(mode: Mode) -> bool
     ensures { result ≡ awake mode }
 {
-    match mode {
-        Mode::Running => true,
-        Mode::WakeUpTimer => false,
-        Mode::Stopped => false,
-    }
+    mode == Mode::Running
 }

@@ -6,8 +6,7 @@ pub fn fewer_ticks(a: Option<u64>, b: Option<u64>) -> Option<u64>
     ensures { result ≡ fewer a b }
 {
     match (a, b) {
-        (None, right) => right,
-        (left, None) => left,
-        (Some(u), Some(v)) => Some(if u < v { u } else { v }),
+        (Some(u), Some(v)) => Some(u.min(v)),
+        (bound, None) | (None, bound) => bound,
     }
 }

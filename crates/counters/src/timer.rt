@@ -1,16 +1,17 @@
 ghost use Rattle.std.specs.Prelude.{◌≡◌, ◌+◌, ◌%◌, ◌≤◌, Bool};
-ghost use Rattle.counters.specs.Timers.{Sane, timer, timer_reset, counts, source0, source1, drive0, drive1, driven, pulses, timer_ticked, timer_moved, timer_still, timer_set, of0, of1, timers_reset, timers_ticked, timers_moved, timers_still};
+ghost use Rattle.counters.specs.Timers.{timer, source0, source1, drive0, drive1, driven, pulses, timer_ticked, timer_moved, timer_still, timer_set, of0, of1, timers_reset, timers_ticked, timers_moved, timers_still};
 ghost use Rattle.counters.specs.Quiet.{Longest, TimerQuiet, TimersQuiet};
 
-use crate::divider::{is_pulse, pulses_in, ticks_before};
+use crate::count::counted;
+use crate::divider::Divider;
 use crate::mode::is_awake;
 use crate::span::fewer_ticks;
 use recorder::mode::Mode;
 
-// What a timer counts: pulses of the divider 2^n, rises of EC0, or nothing.
+// What a timer counts: pulses of a divider, rises of EC0, or nothing.
 #[derive(Clone, Copy, PartialEq, Eq, Debug)]
 pub enum Source {
-    Divider(u8),
+    Divider(Divider),
     Event,
     Held,
 }
@@ -40,11 +41,10 @@ pub struct Matches {
 impl Source {
     // Whether it pulses at a prescaler; `rises` tells whether EC0 does.
     fn is_on(self, prescaler: u16, rises: bool) -> bool
-        requires { Sane self }
         ensures { result ≡ pulses self prescaler rises }
     {
         match self {
-            Source::Divider(n) => is_pulse(n, prescaler),
+            Source::Divider(divider) => divider.is_pulse(prescaler),
             Source::Event => rises,
             Source::Held => false,
         }
@@ -69,11 +69,15 @@ impl Timer {
         }
     }
 
-    // Whether CN and ST are set.
-    fn is_counting(&self) -> bool
-        ensures { result ≡ counts self.now }
+    // What it counts of a source: nothing unless CN and ST are set.
+    fn driven(&self, source: Source) -> Source
+        ensures { result ≡ driven self.now source }
     {
-        self.control % 4 == 3
+        if self.control % 4 == 3 {
+            source
+        } else {
+            Source::Held
+        }
     }
 
     // Counts a pulse if there is one, and tells whether it matched.
@@ -81,94 +85,80 @@ impl Timer {
         ensures { (self.new, result) ≡ timer_ticked on self.old }
     {
         let matched = on && self.count == self.limit;
-        if matched {
-            self.count = 0;
-        } else if on {
-            self.count = self.count.wrapping_add(1);
+        if on {
+            self.count = counted::<256>(self.limit, self.count);
         }
         matched
     }
 
     // Runs the count on over ticks without a match.
     fn run_on(&mut self, source: Source, prescaler: u16, ticks: u64)
-        requires { Sane source }
         ensures { self.new ≡ timer_moved source prescaler ticks self.old }
     {
-        if let Source::Divider(n) = source {
-            let pulses = (pulses_in(n, prescaler, ticks) % 256) as u8;
-            self.count = self.count.wrapping_add(pulses);
+        if let Source::Divider(divider) = source {
+            self.count = divider.run_on::<256>(prescaler, ticks, self.count);
         }
     }
 
     // The ticks before it matches, while EC0 does not rise.
     fn still(&self, source: Source, prescaler: u16) -> Option<u64>
-        requires { Sane source }
         ensures value { result ≡ timer_still source prescaler self.now }
         ensures longest { Longest result (TimerQuiet source prescaler self.now) }
         ensures starts { timer_moved source prescaler 0 self.now ≡ self.now }
     {
         match source {
-            Source::Divider(n) => {
-                let gap = self.limit.wrapping_sub(self.count);
-                Some(ticks_before(n, prescaler, gap))
+            Source::Divider(divider) => {
+                Some(divider.still_for::<256>(prescaler, self.limit, self.count))
             }
-            Source::Event => None,
-            Source::Held => None,
+            Source::Event | Source::Held => None,
         }
     }
 }
 
 // T0CK: dividers 2, 4, 8, 32, 128, 512 and 2048, and EC0.
 fn source_of_tm0(control: u8) -> Source
-    ensures value { result ≡ source0 control }
-    ensures sane { Sane result }
+    ensures { result ≡ source0 control }
 {
-    match control / 4 % 8 {
-        0 => Source::Divider(1),
-        1 => Source::Divider(2),
-        2 => Source::Divider(3),
-        3 => Source::Divider(5),
-        4 => Source::Divider(7),
-        5 => Source::Divider(9),
-        6 => Source::Divider(11),
-        _ => Source::Event,
-    }
+    let shift = match control / 4 % 8 {
+        0 => 1,
+        1 => 2,
+        2 => 3,
+        3 => 5,
+        4 => 7,
+        5 => 9,
+        6 => 11,
+        _ => return Source::Event,
+    };
+    Source::Divider(Divider::new(shift))
 }
 
 // T1CK: dividers 1, 2 and 8, and Timer 0's source.
 fn source_of_tm1(zero: Source, control: u8) -> Source
-    requires { Sane zero }
-    ensures value { result ≡ source1 zero control }
-    ensures sane { Sane result }
+    ensures { result ≡ source1 zero control }
 {
-    match control / 4 % 4 {
-        0 => Source::Divider(0),
-        1 => Source::Divider(1),
-        2 => Source::Divider(3),
-        _ => zero,
-    }
+    let shift = match control / 4 % 4 {
+        0 => 0,
+        1 => 1,
+        2 => 3,
+        _ => return zero,
+    };
+    Source::Divider(Divider::new(shift))
 }
 
 // What drives Timer 0 in a mode: with the wake-up timer only the divider 2048.
 fn drive_timer0(mode: Mode, source: Source) -> Source
-    requires { Sane source }
-    ensures value { result ≡ drive0 mode source }
-    ensures sane { Sane result }
+    ensures { result ≡ drive0 mode source }
 {
     match (mode, source) {
-        (Mode::Running, s) => s,
-        (Mode::WakeUpTimer, Source::Divider(n)) => { if n == 11 { source } else { Source::Held } }
-        (Mode::WakeUpTimer, Source::Event) => Source::Held,
-        (Mode::WakeUpTimer, Source::Held) => Source::Held,
-        (Mode::Stopped, _) => Source::Held,
+        (Mode::Running, _) => source,
+        (Mode::WakeUpTimer, Source::Divider(divider)) if divider.is_longest() => source,
+        (Mode::WakeUpTimer | Mode::Stopped, _) => Source::Held,
     }
 }
 
 // Timer 1 counts awake only.
 fn drive_timer1(mode: Mode, source: Source) -> Source
-    requires { Sane source }
-    ensures value { result ≡ drive1 mode source }
-    ensures sane { Sane result }
+    ensures { result ≡ drive1 mode source }
 {
     if is_awake(mode) { source } else { Source::Held }
 }
@@ -184,42 +174,25 @@ impl Timers {
         }
     }
 
-    // What Timer 0 counts in a mode.
-    fn source0(&self, mode: Mode) -> Source
-        ensures value { result ≡ of0 mode self.now }
-        ensures sane { Sane result }
+    // What Timer 0 and Timer 1 count in a mode. Timer 1 may take Timer 0's source.
+    fn sources(&self, mode: Mode) -> (Source, Source)
+        ensures { result ≡ (of0 mode self.now, of1 mode self.now) }
     {
-        let timer = self.pair[0];
-        if timer.is_counting() {
-            drive_timer0(mode, source_of_tm0(timer.control))
-        } else {
-            Source::Held
-        }
-    }
-
-    // What Timer 1 counts in a mode.
-    fn source1(&self, mode: Mode) -> Source
-        ensures value { result ≡ of1 mode self.now }
-        ensures sane { Sane result }
-    {
-        let zero = self.pair[0];
-        let timer = self.pair[1];
-        if timer.is_counting() {
-            drive_timer1(
-                mode,
-                source_of_tm1(source_of_tm0(zero.control), timer.control),
-            )
-        } else {
-            Source::Held
-        }
+        let [timer0, timer1] = self.pair;
+        let zero = source_of_tm0(timer0.control);
+        let one = source_of_tm1(source_of_tm0(timer0.control), timer1.control);
+        let zero = drive_timer0(mode, zero);
+        let one = drive_timer1(mode, one);
+        (timer0.driven(zero), timer1.driven(one))
     }
 
     // One tick, at the prescaler that it has reached; `rises` tells whether EC0 rises in it.
     pub fn tick(&mut self, mode: Mode, prescaler: u16, rises: bool) -> Matches
         ensures { (self.new, result) ≡ timers_ticked mode prescaler rises self.old }
     {
-        let on0 = self.source0(mode).is_on(prescaler, rises);
-        let on1 = self.source1(mode).is_on(prescaler, rises);
+        let (source0, source1) = self.sources(mode);
+        let on0 = source0.is_on(prescaler, rises);
+        let on1 = source1.is_on(prescaler, rises);
         let timer0 = self.pair[0].count_pulse(on0);
         let timer1 = self.pair[1].count_pulse(on1);
         self.comp = self.comp != timer0;
@@ -230,8 +203,7 @@ impl Timers {
     pub fn run_on(&mut self, mode: Mode, prescaler: u16, ticks: u64)
         ensures { self.new ≡ timers_moved mode prescaler ticks self.old }
     {
-        let source0 = self.source0(mode);
-        let source1 = self.source1(mode);
+        let (source0, source1) = self.sources(mode);
         self.pair[0].run_on(source0, prescaler, ticks);
         self.pair[1].run_on(source1, prescaler, ticks);
     }
@@ -242,8 +214,7 @@ impl Timers {
         ensures longest { Longest result (TimersQuiet mode prescaler self.now) }
         ensures starts { timers_moved mode prescaler 0 self.now ≡ self.now }
     {
-        let source0 = self.source0(mode);
-        let source1 = self.source1(mode);
+        let (source0, source1) = self.sources(mode);
         let [timer0, timer1] = self.pair;
         fewer_ticks(
             timer0.still(source0, prescaler),

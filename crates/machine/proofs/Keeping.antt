@@ -35,8 +35,8 @@ use Rattle.ports.specs.Requests.{vector_of, accepted}
 use Rattle.machine.specs.declared.state.Machine.{Machine}
 use Rattle.machine.specs.declared.state.Action.{Action}
 use Rattle.machine.specs.declared.state.Action.TheVariants.{Rest, Accept, Execute}
-use Rattle.machine.specs.Tick.{machine, woken, action_of, acted, begun, happened, counted, prescaler_after, reset_machine, finished}
-use Rattle.machine.specs.Quiet.{Sound, prescaler_moved, moved}
+use Rattle.machine.specs.Tick.{machine, woken, action_of, acted, begun, happened, counted, prescaler_moved, prescaler_after, reset_machine, finished}
+use Rattle.machine.specs.Quiet.{Sound, moved}
 
 -- the buzzer's count has 6 bits
 abbrev Kept : Parts → Type 0
@@ -212,11 +212,6 @@ buzzer_moves WakeUpTimer p k b h = h
 buzzer_moves Stopped p k b h = h
 buzzer_moves Running p k b h = mod-lt _ (lit< tt)
 
-pub prescaler_ticks : (mode : Mode) (p : ℕ) → p < 2048 → prescaler_after mode p < 2048
-prescaler_ticks Running p h = mod-lt (p + 1) (lit< tt)
-prescaler_ticks WakeUpTimer p h = mod-lt (p + 1) (lit< tt)
-prescaler_ticks Stopped p h = h
-
 pub prescaler_moves : (mode : Mode) (p k : ℕ) → p < 2048 → prescaler_moved mode p k < 2048
 prescaler_moves Running p k h = mod-lt (p + k) (lit< tt)
 prescaler_moves WakeUpTimer p k h = mod-lt (p + k) (lit< tt)
@@ -232,11 +227,12 @@ pub begin_sound : (r : Result Unit Fault) (m m' : Machine) (image : List ℕ) (h
 begin_sound (Ok v) m m' image host e = λ h. subst (λ (x : Result Machine Fault). IfOk x Sound) (sym e) (all_made (acts_soundly m image host (action_of m) h))
 begin_sound (Err f) m m' image host e = tt
 
-pub finish_sound : (m : Machine) (image : List ℕ) (before at : ℕ) → Sound m → Sound (finished m image before at)
-finish_sound m image before at h =
-    cond_both _ (reset_machine (counted m (happened m before at)) image) (machine (counted m (happened m before at)) (m.owed - 1) (prescaler_after m.parts.mode m.prescaler)) Sound
+pub finish_sound : (m m' : Machine) (image : List ℕ) (before at : ℕ) → m' ≡ finished m image before at → Sound m → Sound m'
+finish_sound m m' image before at e h =
+    subst Sound (sym e)
+    (cond_both _ (reset_machine (counted m (happened m before at)) image) (machine (counted m (happened m before at)) (m.owed - 1) (prescaler_after m.parts.mode m.prescaler)) Sound
     (λ _. record { prescaler = lit< tt; buzzer = lit< tt })
-    (λ _. record { prescaler = prescaler_ticks m.parts.mode m.prescaler h.prescaler; buzzer = buzzer_ticks m.parts.mode _ m.parts.buzzer h.buzzer })
+    (λ _. record { prescaler = prescaler_moves m.parts.mode m.prescaler 1 h.prescaler; buzzer = buzzer_ticks m.parts.mode _ m.parts.buzzer h.buzzer }))
 
 pub move_sound : (m : Machine) (k : ℕ) → Sound m → Sound (moved k m)
 move_sound m k h = record { prescaler = prescaler_moves m.parts.mode m.prescaler k h.prescaler; buzzer = buzzer_moves m.parts.mode m.prescaler k m.parts.buzzer h.buzzer }

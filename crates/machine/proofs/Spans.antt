@@ -1,5 +1,5 @@
 -- The quiet span of a machine, from those of its counters.
-use Rattle.std.proofs.Common.{◌≡◌, ℕ, zero, suc, ◌+◌, ◌-◌, ◌/◌, ◌%◌, ◌<◌, Bool, true, false, cond, not, ◌&&◌, ◌||◌, eqb, List, Some, None, Ok, Option, Result, sym, refl, ap, ◌∙◌, ap₂, mod-eq_of_lt, arith}
+use Rattle.std.proofs.Common.{◌≡◌, ℕ, zero, suc, ◌+◌, ◌-◌, ◌/◌, ◌%◌, ◌<◌, Bool, true, false, cond, not, ◌&&◌, ◌||◌, eqb, List, Some, None, Ok, Option, Result, sym, refl, ap, ◌∙◌, ap₂, add_assoc, arith}
 use native.Mathlib.Nat.{mod-add-mod}
 use lib.Bits.{bit_or}
 use Rattle.std.proofs.lemmas.Nat.{or_comm}
@@ -15,10 +15,10 @@ use Rattle.counters.specs.declared.timer.Source.TheVariants.{Held}
 use Rattle.counters.specs.declared.buzzer.Buzzer.{Buzzer}
 use Rattle.counters.specs.declared.basic.BasicTimer.{BasicTimer}
 use Rattle.counters.specs.declared.basic.Passing.{Passing}
-use Rattle.counters.specs.Counting.{awake, flip}
-use Rattle.counters.specs.Timers.{counts, at, pulses, timer_ticked, timers, timers_ticked, timers_moved, timers_still}
-use Rattle.counters.specs.Buzzers.{buzzer_ticked, buzzer_moved, buzzer_still}
-use Rattle.counters.specs.Basic.{basic_ticked, basic_moved, basic_still}
+use Rattle.counters.specs.Counting.{awake, flip, fewer}
+use Rattle.counters.specs.Timers.{counts, at, pulses, timer_ticked, timers, timers_ticked, timers_moved}
+use Rattle.counters.specs.Buzzers.{buzzer_ticked, buzzer_moved}
+use Rattle.counters.specs.Basic.{basic_ticked, basic_moved}
 use Rattle.counters.specs.Quiet.{prescaled, Within, Longest, TimersQuiet, BuzzerQuiet, BasicQuiet}
 use Rattle.counters.proofs.Quiets.{longest_both, unbounded, the}
 use Rattle.ports.specs.declared.port.Ports.{Ports}
@@ -33,8 +33,8 @@ use Rattle.bus.specs.Outcomes.{bind}
 use Rattle.machine.specs.declared.state.Machine.{Machine}
 use Rattle.machine.specs.declared.state.Action.{Action}
 use Rattle.machine.specs.declared.state.Action.TheVariants.{Rest}
-use Rattle.machine.specs.Tick.{machine, interrupt_of, attended, action_of, acted, prescaler_after, resets, Happened, happened, events_of, counted, reset_machine, finished}
-use Rattle.machine.specs.Quiet.{rest_for, still_for, prescaler_moved, moved, QuietTick, ticked, one_by_one, Spans, Span}
+use Rattle.machine.specs.Tick.{machine, interrupt_of, attended, action_of, acted, prescaler_moved, prescaler_after, resets, Happened, happened, events_of, counted, reset_machine, finished}
+use Rattle.machine.specs.Quiet.{rest_for, moved, QuietTick, ticked, one_by_one, Spans, Span}
 
 -- a word that stays has no edges
 still_level : (x y b : Bool) → ((x && (b && not b)) || (y && (not b && b))) ≡ false
@@ -76,9 +76,12 @@ noted_none : (r : Requests) → noted no_events r ≡ r
 noted_none r = let h = or_none r.irqh in let l = or_none r.irql in λ i. requests r.ienh r.ienl (h i) (l i) r.ieds
 
 -- the prescaler that a tick of the span reaches
+prescaled_on : (p j k : ℕ) → prescaled (prescaled p j) k ≡ prescaled p (j + k)
+prescaled_on p j k = mod-add-mod (p + j) 2048 k ∙ ap (λ n. n % 2048) (add_assoc p j k)
+
 next_prescaler : (mode : Mode) (p j : ℕ) → prescaler_after mode (prescaler_moved mode p j) ≡ prescaler_moved mode p (j + 1)
-next_prescaler Running p j = mod-add-mod (p + j) 2048 1 ∙ (let e : p + j + 1 ≡ p + (j + 1) = omega arith in ap (λ n. n % 2048) e)
-next_prescaler WakeUpTimer p j = mod-add-mod (p + j) 2048 1 ∙ (let e : p + j + 1 ≡ p + (j + 1) = omega arith in ap (λ n. n % 2048) e)
+next_prescaler Running p j = prescaled_on p j 1
+next_prescaler WakeUpTimer p j = prescaled_on p j 1
 next_prescaler Stopped p j = refl
 
 held : (b : Bool) → cond b Held Held ≡ Held
@@ -87,8 +90,8 @@ held false = refl
 
 -- stopped timers do not see the prescaler
 timers_at : (mode : Mode) (p j : ℕ) (ts : Timers) → timers_ticked mode (prescaler_after mode (prescaler_moved mode p j)) false ts ≡ timers_ticked mode (prescaled p (j + 1)) false ts
-timers_at Running p j ts = ap (λ q. timers_ticked Running q false ts) (next_prescaler Running p j)
-timers_at WakeUpTimer p j ts = ap (λ q. timers_ticked WakeUpTimer q false ts) (next_prescaler WakeUpTimer p j)
+timers_at Running p j ts = ap (λ q. timers_ticked Running q false ts) (prescaled_on p j 1)
+timers_at WakeUpTimer p j ts = ap (λ q. timers_ticked WakeUpTimer q false ts) (prescaled_on p j 1)
 timers_at Stopped p j ts = at_held p ∙ sym (at_held (prescaled p (j + 1)))
   where
     at_held : (q : ℕ) → timers_ticked Stopped q false ts ≡ (timers (timer_ticked false (at ts 0)).0 (timer_ticked false (at ts 1)).0 ts.comp ts, record { timer0 = false; timer1 = false })
@@ -100,12 +103,12 @@ timers_at Stopped p j ts = at_held p ∙ sym (at_held (prescaled p (j + 1)))
         ap₂ F (held (counts (at ts 0))) (held (counts (at ts 1)))
 
 buzzer_at : (mode : Mode) (p j : ℕ) (b : Buzzer) → buzzer_ticked mode (prescaler_after mode (prescaler_moved mode p j)) b ≡ buzzer_ticked mode (prescaled p (j + 1)) b
-buzzer_at Running p j b = ap (λ q. buzzer_ticked Running q b) (next_prescaler Running p j)
+buzzer_at Running p j b = ap (λ q. buzzer_ticked Running q b) (prescaled_on p j 1)
 buzzer_at WakeUpTimer p j b = refl
 buzzer_at Stopped p j b = refl
 
 basic_at : (mode : Mode) (p j : ℕ) (b : BasicTimer) → basic_ticked mode (prescaler_after mode (prescaler_moved mode p j)) b ≡ basic_ticked mode (prescaled p (j + 1)) b
-basic_at Running p j b = ap (λ q. basic_ticked Running q b) (next_prescaler Running p j)
+basic_at Running p j b = ap (λ q. basic_ticked Running q b) (prescaled_on p j 1)
 basic_at WakeUpTimer p j b = refl
 basic_at Stopped p j b = refl
 
@@ -116,8 +119,8 @@ level_kept Stopped p k b = refl
 
 -- the first step rests as long as ticks are owed, or nothing wakes the chip
 acts : (q : Option Interrupt) → attended q ≡ Rest → ⊥
-acts (Some x) e = let z : ◌≡◌ {A = ℕ} 0 1 = cc in omega arith
-acts None e = let z : ◌≡◌ {A = ℕ} 0 1 = cc in omega arith
+acts (Some x) e = cc
+acts None e = cc
 
 rest_longest : (up : Bool) (q : Option Interrupt) (owed : ℕ) → Longest (cond up (Some owed) None) (λ j. cond (eqb (owed - j) 0 && up) (attended q) Rest ≡ Rest)
 rest_longest false q owed = unbounded (λ j. cond-false (eqb (owed - j) 0 && false) (attended q) Rest (and_right (eqb (owed - j) 0) false refl))
@@ -161,17 +164,7 @@ module _ (m : Machine) (image : List ℕ) (w j : ℕ) where
         rests = rests;
         pins = ap (λ (v : Bool). sampled m.parts.ports w v m.parts.timers.comp) (level_kept mode m.prescaler j m.parts.buzzer);
         nothing = record { matches = ap (λ (x : Timers × Matches). x.1) t; passing = ap (λ (x : BasicTimer × Passing). x.1) c; edges = e };
-        on = plain (ap (λ (x : BasicTimer × Passing). x.1) c) ∙ (λ i. machine (record {
-          registers = m.parts.registers;
-          memory = m.parts.memory;
-          ports = m.parts.ports;
-          timers = (t i).0;
-          buzzer = b i;
-          basic = (c i).0;
-          requests = asked i;
-          pfdr = m.parts.pfdr;
-          mode = m.parts.mode;
-        }) (owed i) (clock i));
+        on = plain (ap (λ (x : BasicTimer × Passing). x.1) c) ∙ (λ i. machine (record m.parts { timers = (t i).0; buzzer = b i; basic = (c i).0; requests = asked i }) (owed i) (clock i));
       }
 
   apart : QuietTick m image w j → (action_of (moved j m) ≡ Rest) × (TimersQuiet mode m.prescaler m.parts.timers j × (BuzzerQuiet mode m.prescaler m.parts.buzzer j × BasicQuiet mode m.prescaler m.parts.basic j))
@@ -184,48 +177,41 @@ module _ (m : Machine) (image : List ℕ) (w j : ℕ) where
       let passing = q.nothing.passing in
       (q.rests, (sym timers_are ∙ (λ i. (t i, matches i)), (sym (buzzer_at mode m.prescaler j (buzzer_moved mode m.prescaler j m.parts.buzzer)) ∙ b, sym basic_are ∙ (λ i. (c i, passing i)))))
 
-module _ (m : Machine) (T : Longest (timers_still m.parts.mode m.prescaler m.parts.timers) (TimersQuiet m.parts.mode m.prescaler m.parts.timers)) (B : Longest (buzzer_still m.parts.mode m.prescaler m.parts.buzzer) (BuzzerQuiet m.parts.mode m.prescaler m.parts.buzzer)) (C : Longest (basic_still m.parts.mode m.prescaler m.parts.basic) (BasicQuiet m.parts.mode m.prescaler m.parts.basic)) where
-  span_longest : (image : List ℕ) (w : ℕ) → Longest (still_for m) (QuietTick m image w)
+module _ (m : Machine) (t b d : Option ℕ) (T : Longest t (TimersQuiet m.parts.mode m.prescaler m.parts.timers)) (B : Longest b (BuzzerQuiet m.parts.mode m.prescaler m.parts.buzzer)) (D : Longest d (BasicQuiet m.parts.mode m.prescaler m.parts.basic)) where
+  abbrev span : Option ℕ
+  span = fewer (rest_for m) (fewer t (fewer b d))
+
+  span_longest : (image : List ℕ) (w : ℕ) → Longest span (QuietTick m image w)
   span_longest image w =
       longest_both (rest_for m) _ (rest_longest (awake m.parts.mode || wakes m.parts.requests) (interrupt_of m.parts) m.owed)
-      (longest_both _ _ T (longest_both _ _ B C (λ j b c. (b, c)) (λ j p. p)) (λ j t p. (t, p)) (λ j p. p))
+      (longest_both t _ T (longest_both b d B D (λ j x y. (x, y)) (λ j p. p)) (λ j x y. (x, y)) (λ j p. p))
       (λ j. together m image w j) (λ j. apart m image w j)
 
   fewer_spans : (r : Option ℕ) (k : ℕ) → Spans (suc k) r → Spans k r × Within k r
   fewer_spans None k h = (tt, tt)
   fewer_spans (Some r) k h = (omega arith, omega arith)
 
-  span_leaps : moved 0 m ≡ m → (image : List ℕ) (w k : ℕ) → Spans k (still_for m) → one_by_one image w k m ≡ Ok (moved k m)
+  span_leaps : moved 0 m ≡ m → (image : List ℕ) (w k : ℕ) → Spans k span → one_by_one image w k m ≡ Ok (moved k m)
   span_leaps starts image w zero h = ap (λ (z : Machine). Ok z) (sym starts)
   span_leaps starts image w (suc k) h =
-      let p = fewer_spans (still_for m) k h in
+      let p = fewer_spans span k h in
       let q = (span_longest image w).quiet k p.1 in
       let e : k + 1 ≡ suc k = omega arith in
       ap (λ (r : Result Machine Fault). bind r (ticked image w)) (span_leaps starts image w k p.0)
       ∙ ap (λ (a : Action). bind (acted (moved k m) image w a) (λ s. Ok (finished s image w w))) q.rests
       ∙ ap (λ (z : Machine). Ok z) (q.on ∙ ap (λ i. moved i m) e)
 
-  pub span_of : moved 0 m ≡ m → Span m (still_for m)
+  pub span_of : moved 0 m ≡ m → Span m span
   span_of starts = record { longest = span_longest; leaps = span_leaps starts }
 
 -- no ticks change nothing
 prescaler_starts : (mode : Mode) (p : ℕ) → p < 2048 → prescaler_moved mode p 0 ≡ p
-prescaler_starts Running p h = (let e : p + 0 ≡ p = omega arith in ap (λ n. n % 2048) e) ∙ mod-eq_of_lt h
-prescaler_starts WakeUpTimer p h = (let e : p + 0 ≡ p = omega arith in ap (λ n. n % 2048) e) ∙ mod-eq_of_lt h
+prescaler_starts Running p h = omega arith
+prescaler_starts WakeUpTimer p h = omega arith
 prescaler_starts Stopped p h = refl
 
 pub starts_from : (m : Machine) → m.prescaler < 2048 → timers_moved m.parts.mode m.prescaler 0 m.parts.timers ≡ m.parts.timers → buzzer_moved m.parts.mode m.prescaler 0 m.parts.buzzer ≡ m.parts.buzzer → basic_moved m.parts.mode m.prescaler 0 m.parts.basic ≡ m.parts.basic → moved 0 m ≡ m
 starts_from m small t b c =
     let owed : m.owed - 0 ≡ m.owed = omega arith in
     let clock = prescaler_starts m.parts.mode m.prescaler small in
-    λ i. machine (record {
-      registers = m.parts.registers;
-      memory = m.parts.memory;
-      ports = m.parts.ports;
-      timers = t i;
-      buzzer = b i;
-      basic = c i;
-      requests = m.parts.requests;
-      pfdr = m.parts.pfdr;
-      mode = m.parts.mode;
-    }) (owed i) (clock i)
+    λ i. machine (record m.parts { timers = t i; buzzer = b i; basic = c i }) (owed i) (clock i)

@@ -1,8 +1,6 @@
 -- The quiet span: how many of the next ticks change nothing but running counts, and the move over them.
-use Rattle.std.specs.Prelude.{◌≡◌, ℕ, zero, suc, ◌+◌, ◌-◌, ◌%◌, ◌<◌, ◌≤◌, false, cond, ◌||◌, List, Some, None, Ok, Option, Result}
+use Rattle.std.specs.Prelude.{◌≡◌, ℕ, zero, suc, ◌+◌, ◌-◌, ◌<◌, ◌≤◌, false, cond, ◌||◌, List, Some, None, Ok, Option, Result}
 use Rattle.faults.specs.declared.Fault.{Fault}
-use Rattle.recorder.specs.declared.mode.Mode.{Mode}
-use Rattle.recorder.specs.declared.mode.Mode.TheVariants.{Running, WakeUpTimer, Stopped}
 use Rattle.counters.specs.Counting.{awake, fewer}
 use Rattle.counters.specs.Timers.{timers_moved, timers_still}
 use Rattle.counters.specs.Buzzers.{buzzer_moved, buzzer_still}
@@ -12,7 +10,7 @@ use Rattle.ports.specs.Requests.{wakes}
 use Rattle.bus.specs.Outcomes.{bind}
 use Rattle.machine.specs.declared.state.Machine.{Machine}
 use Rattle.machine.specs.declared.state.Action.TheVariants.{Rest}
-use Rattle.machine.specs.Tick.{machine, action_of, begun, pins_of, Happened, happened, finished}
+use Rattle.machine.specs.Tick.{action_of, begun, pins_of, Happened, happened, prescaler_moved, finished}
 
 -- the ticks in which the first step rests: those that are owed, and all where nothing wakes the chip
 abbrev pub rest_for : Machine → Option ℕ
@@ -24,28 +22,19 @@ still_for m =
     let p = m.parts in
     fewer (rest_for m) (fewer (timers_still p.mode m.prescaler p.timers) (fewer (buzzer_still p.mode m.prescaler p.buzzer) (basic_still p.mode m.prescaler p.basic)))
 
-abbrev pub prescaler_moved : Mode → ℕ → ℕ → ℕ
-prescaler_moved Running p k = (p + k) % 2048
-prescaler_moved WakeUpTimer p k = (p + k) % 2048
-prescaler_moved Stopped p k = p
-
 -- k quiet ticks at once: only the counts, the prescaler and the owed ticks change
 abbrev pub moved : ℕ → Machine → Machine
 moved k m =
     let p = m.parts in
-    machine
-    (record {
-      registers = p.registers;
-      memory = p.memory;
-      ports = p.ports;
-      timers = timers_moved p.mode m.prescaler k p.timers;
-      buzzer = buzzer_moved p.mode m.prescaler k p.buzzer;
-      basic = basic_moved p.mode m.prescaler k p.basic;
-      requests = p.requests;
-      pfdr = p.pfdr;
-      mode = p.mode;
-    })
-    (m.owed - k) (prescaler_moved p.mode m.prescaler k)
+    record {
+      parts = record p {
+        timers = timers_moved p.mode m.prescaler k p.timers;
+        buzzer = buzzer_moved p.mode m.prescaler k p.buzzer;
+        basic = basic_moved p.mode m.prescaler k p.basic;
+      };
+      owed = m.owed - k;
+      prescaler = prescaler_moved p.mode m.prescaler k;
+    }
 
 -- nothing happened: no match, no passing of BITR and no edge
 pub record Nothing (h : Happened) : Type 0 where

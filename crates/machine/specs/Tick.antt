@@ -1,8 +1,8 @@
 -- One tick: the chip acts, its samples are taken, and its counters run.
-use Rattle.std.specs.Prelude.{ℕ, ◌+◌, ◌-◌, ◌/◌, ◌%◌, Bool, cond, not, ◌&&◌, ◌||◌, List, Some, None, Ok, Option, Result, ◌==◌}
+use Rattle.std.specs.Prelude.{ℕ, ◌-◌, ◌/◌, ◌%◌, Bool, cond, not, ◌&&◌, ◌||◌, List, Some, None, Ok, Option, Result, ◌==◌}
 use Rattle.faults.specs.declared.Fault.{Fault}
 use Rattle.recorder.specs.declared.mode.Mode.{Mode}
-use Rattle.recorder.specs.declared.mode.Mode.TheVariants.{Running, WakeUpTimer, Stopped}
+use Rattle.recorder.specs.declared.mode.Mode.TheVariants.{Running, Stopped}
 use Rattle.recorder.specs.declared.pin_sample.PinSample.{PinSample}
 use Rattle.counters.specs.declared.timer.Timers.{Timers}
 use Rattle.counters.specs.declared.timer.Matches.{Matches}
@@ -12,6 +12,7 @@ use Rattle.counters.specs.Counting.{awake}
 use Rattle.counters.specs.Timers.{timers_reset, timers_ticked}
 use Rattle.counters.specs.Buzzers.{buzzer_set, buzzer_ticked}
 use Rattle.counters.specs.Basic.{basic, basic_ticked}
+use Rattle.counters.specs.Quiet.{prescaled}
 use Rattle.ports.specs.declared.request.Interrupt.{Interrupt}
 use Rattle.ports.specs.declared.request.Events.{Events}
 use Rattle.ports.specs.declared.edges.Edges.{Edges}
@@ -65,11 +66,13 @@ begun m image host = acted m image host (action_of m)
 abbrev pub pins_of : Machine → ℕ → PinSample
 pins_of m host = sampled m.parts.ports host m.parts.buzzer.level m.parts.timers.comp
 
--- the prescaler stands still only where all is stopped
+-- the prescaler after k ticks; it stands still only where all is stopped
+abbrev pub prescaler_moved : Mode → ℕ → ℕ → ℕ
+prescaler_moved Stopped p k = p
+prescaler_moved _ p k = prescaled p k
+
 abbrev pub prescaler_after : Mode → ℕ → ℕ
-prescaler_after Running p = (p + 1) % 2048
-prescaler_after WakeUpTimer p = (p + 1) % 2048
-prescaler_after Stopped p = p
+prescaler_after mode p = prescaler_moved mode p 1
 
 -- WDTON, bit 4 of CKCTLR
 abbrev pub resets : BasicTimer → Bool
@@ -99,24 +102,18 @@ events_of b h =
 abbrev pub counted : Machine → Happened → Parts
 counted m h =
     let p = m.parts in
-    record {
-      registers = p.registers;
-      memory = p.memory;
-      ports = p.ports;
+    record p {
       timers = h.timers.0;
       buzzer = buzzer_ticked p.mode (prescaler_after p.mode m.prescaler) p.buzzer;
       basic = h.basic.0;
       requests = noted (events_of p.basic h) p.requests;
-      pfdr = p.pfdr;
-      mode = p.mode;
     }
 
 -- a reset: the registers' reset values, PSW 0 and PC from FFFE; RAM, A, X, Y, SP and latches stay
 abbrev pub reset_parts : Parts → List ℕ → Parts
 reset_parts p image =
-    record {
+    record p {
       registers = with_pc (with_flags p.registers cleared.flags) (image_word image 0xFFFE);
-      memory = p.memory;
       ports = ports_reset p.ports;
       timers = timers_reset;
       buzzer = buzzer_set 255;

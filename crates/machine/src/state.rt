@@ -1,9 +1,6 @@
 use bus::parts::Parts;
 use ports::request::Interrupt;
 
-// The prescaler counts modulo this.
-pub(crate) const PRESCALER: u16 = 2048;
-
 // The chip without its tick number: its parts, the ticks that are owed for what took effect, and the prescaler.
 #[derive(Clone, Copy, PartialEq, Eq, Debug)]
 pub struct Machine {

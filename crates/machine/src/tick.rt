@@ -1,9 +1,10 @@
 ghost use Rattle.std.specs.Prelude.{◌≡◌, ◌≤◌, OnOk};
 ghost use Rattle.bus.specs.Outcomes.{after};
-ghost use Rattle.machine.specs.Tick.{interrupt_of, action_of, begun, pins_of, prescaler_after, resets, finished};
+ghost use Rattle.machine.specs.Tick.{interrupt_of, action_of, begun, pins_of, finished};
 ghost use Rattle.machine.specs.Quiet.{Sound};
 
-use crate::state::{Action, Machine, PRESCALER};
+use crate::prescaler::run_prescaler;
+use crate::state::{Action, Machine};
 use faults::Fault;
 use instructions::call::interrupt;
 use instructions::execute::instruct;
@@ -17,17 +18,6 @@ const ACCEPTED: u8 = 16;
 
 // WDTON of CKCTLR.
 const WDTON: u8 = 0x10;
-
-// The prescaler after a tick in a mode.
-fn next_prescaler(mode: Mode, prescaler: u16) -> u16
-    ensures { result ≡ prescaler_after mode prescaler }
-{
-    match mode {
-        Mode::Running => (prescaler % PRESCALER + 1) % PRESCALER,
-        Mode::WakeUpTimer => (prescaler % PRESCALER + 1) % PRESCALER,
-        Mode::Stopped => prescaler,
-    }
-}
 
 impl Machine {
     // The request that is accepted: the first enabled one that is pending, if I is set.
@@ -48,16 +38,12 @@ impl Machine {
         if self.owed > 0 {
             return Action::Rest;
         }
-        match (
-            self.parts.mode,
-            self.parts.requests.is_waking(),
-            self.interrupt(),
-        ) {
-            (Mode::Running, _, Some(interrupt)) => Action::Accept(interrupt),
-            (Mode::Running, _, None) => Action::Execute,
-            (_, true, Some(interrupt)) => Action::Accept(interrupt),
-            (_, true, None) => Action::Execute,
-            (_, false, _) => Action::Rest,
+        match (self.parts.mode, self.interrupt()) {
+            (Mode::WakeUpTimer | Mode::Stopped, _) if !self.parts.requests.is_waking() => {
+                Action::Rest
+            }
+            (_, Some(interrupt)) => Action::Accept(interrupt),
+            (_, None) => Action::Execute,
         }
     }
 
@@ -100,7 +86,7 @@ impl Machine {
         ensures sound { Sound self.old → Sound self.new }
     {
         let mode = self.parts.mode;
-        let prescaler = next_prescaler(mode, self.prescaler);
+        let prescaler = run_prescaler(mode, self.prescaler, 1);
         let edges = Edges::between(&self.parts.ports, self.parts.requests.ieds, before, at);
         let matches = self.parts.timers.tick(mode, prescaler, edges.ec0);
         let resets = self.parts.basic.control / WDTON % 2 == 1;
