@@ -1,5 +1,5 @@
 -- Codes, operands and addresses.
-use Rattle.std.specs.Prelude.{ℕ, ◌+◌, ◌-◌, ◌*◌, ◌/◌, ◌%◌, cond, List, Ok, Err, Result, nat_le, nat_lt, slice_index}
+use Rattle.std.specs.Prelude.{ℕ, ◌+◌, ◌-◌, ◌*◌, ◌/◌, ◌%◌, cond, Ok, Err, Result, nat_le, nat_lt, slice_index}
 use Rattle.faults.specs.declared.Fault.{Fault}
 use Rattle.faults.specs.declared.Fault.TheVariants.{Unoccupied}
 use Rattle.sheet.specs.declared.operation.Place.{Place}
@@ -10,41 +10,42 @@ use Rattle.cpu.specs.declared.registers.Registers.{Registers}
 use Rattle.cpu.specs.State.{advanced, direct_of, pushed, pulled}
 use Rattle.bus.specs.declared.parts.Parts.{Parts}
 use Rattle.bus.specs.With.{parts_with_registers}
+use Rattle.bus.specs.Seen.{Seen}
 use Rattle.bus.specs.Outcomes.{bind}
 use Rattle.bus.specs.Registers.{read_at, ram_with}
 
 -- the byte at PC, which moves on; it has to be in the image
-abbrev pub fetched : Parts → List ℕ → ℕ → Result (Parts × ℕ) Fault
-fetched m image pc =
+abbrev pub fetched : Parts → Seen → Result (Parts × ℕ) Fault
+fetched m view =
     let s : Registers × ℕ = advanced m.registers in
-    cond (nat_le 0xF800 s.1) (Ok (parts_with_registers m s.0, slice_index image (s.1 - 0xF800))) (Err (Unoccupied pc s.1))
+    cond (nat_le 0xF800 s.1) (Ok (parts_with_registers m s.0, slice_index view.image (s.1 - 0xF800))) (Err (Unoccupied view.pc s.1))
 
 -- a word, low byte first
-abbrev pub word_fetched : Parts → List ℕ → ℕ → Result (Parts × ℕ) Fault
-word_fetched m image pc = bind (fetched m image pc) (λ s. bind (fetched s.0 image pc) (λ t. Ok (t.0, s.1 + 256 * t.1)))
+abbrev pub word_fetched : Parts → Seen → Result (Parts × ℕ) Fault
+word_fetched m view = bind (fetched m view) (λ s. bind (fetched s.0 view) (λ t. Ok (t.0, s.1 + 256 * t.1)))
 
 -- a direct address, in page 1 under G; they wrap in 256
 abbrev pub direct : Parts → ℕ → ℕ
 direct m d = direct_of m.registers d
 
 -- the pointer at a direct address, low byte first
-abbrev pub pointer_at : Parts → List ℕ → ℕ → ℕ → ℕ → Result ℕ Fault
-pointer_at m image host pc d = bind (read_at m image host pc (direct m d)) (λ l. bind (read_at m image host pc (direct m ((d + 1) % 256))) (λ h. Ok (l + 256 * h)))
+abbrev pub pointer_at : Parts → Seen → ℕ → Result ℕ Fault
+pointer_at m view d = bind (read_at m view (direct m d)) (λ l. bind (read_at m view (direct m ((d + 1) % 256))) (λ h. Ok (l + 256 * h)))
 
 -- where an operand is
-abbrev pub addressed : Parts → List ℕ → ℕ → ℕ → Place → Result (Parts × ℕ) Fault
-addressed m image host pc Dp = bind (fetched m image pc) (λ s. Ok (s.0, direct s.0 s.1))
-addressed m image host pc DpX = bind (fetched m image pc) (λ s. Ok (s.0, direct s.0 ((s.1 + s.0.registers.x) % 256)))
-addressed m image host pc Abs = word_fetched m image pc
-addressed m image host pc AtX = Ok (m, direct m m.registers.x)
-addressed m image host pc AbsY = bind (word_fetched m image pc) (λ s. Ok (s.0, (s.1 + s.0.registers.y) % 65536))
-addressed m image host pc IndX = bind (fetched m image pc) (λ s. bind (pointer_at s.0 image host pc ((s.1 + s.0.registers.x) % 256)) (λ w. Ok (s.0, w)))
-addressed m image host pc IndY = bind (fetched m image pc) (λ s. bind (pointer_at s.0 image host pc s.1) (λ w. Ok (s.0, (w + s.0.registers.y) % 65536)))
+abbrev pub addressed : Parts → Seen → Place → Result (Parts × ℕ) Fault
+addressed m view Dp = bind (fetched m view) (λ s. Ok (s.0, direct s.0 s.1))
+addressed m view DpX = bind (fetched m view) (λ s. Ok (s.0, direct s.0 ((s.1 + s.0.registers.x) % 256)))
+addressed m view Abs = word_fetched m view
+addressed m view AtX = Ok (m, direct m m.registers.x)
+addressed m view AbsY = bind (word_fetched m view) (λ s. Ok (s.0, (s.1 + s.0.registers.y) % 65536))
+addressed m view IndX = bind (fetched m view) (λ s. bind (pointer_at s.0 view ((s.1 + s.0.registers.x) % 256)) (λ w. Ok (s.0, w)))
+addressed m view IndY = bind (fetched m view) (λ s. bind (pointer_at s.0 view s.1) (λ w. Ok (s.0, (w + s.0.registers.y) % 65536)))
 
 -- an operand that is read
-abbrev pub operand_of : Parts → List ℕ → ℕ → ℕ → Operand → Result (Parts × ℕ) Fault
-operand_of m image host pc Imm = fetched m image pc
-operand_of m image host pc (At place) = bind (addressed m image host pc place) (λ s. bind (read_at s.0 image host pc s.1) (λ v. Ok (s.0, v)))
+abbrev pub operand_of : Parts → Seen → Operand → Result (Parts × ℕ) Fault
+operand_of m view Imm = fetched m view
+operand_of m view (At place) = bind (addressed m view place) (λ s. bind (read_at s.0 view s.1) (λ v. Ok (s.0, v)))
 
 -- a push stores at SP and lowers it, a pull raises SP and reads there; both only in RAM
 abbrev pub byte_pushed : Parts → ℕ → ℕ → Result Parts Fault

@@ -1,3 +1,5 @@
+pub mod Seen
+pub mod Ram
 pub mod With
 pub mod Outcomes
 pub mod Registers

@@ -9,7 +9,7 @@ pub(crate) fn image_at(image: &[u8], address: u16) -> u8
     ensures { result ≡ slice_index image.now (address - 0xf800) }
 {
     let i = address.saturating_sub(FIRST) as usize;
-    if i < image.len() { image[i] } else { 0 }
+    image.get(i).copied().unwrap_or(0)
 }
 
 // The image's word at an address, low byte first.
@@ -18,5 +18,5 @@ pub fn image_word(image: &[u8], address: u16) -> u16
 {
     let low = image_at(image, address);
     let high = image_at(image, address.wrapping_add(1));
-    low as u16 + 256 * high as u16
+    u16::from_le_bytes([low, high])
 }

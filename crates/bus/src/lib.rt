@@ -6,3 +6,4 @@ pub mod image;
 pub mod parts;
 pub mod register;
 pub mod stack;
+pub mod view;

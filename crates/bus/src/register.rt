@@ -1,14 +1,13 @@
 ghost use Rattle.std.specs.Prelude.{◌≡◌};
 ghost use Rattle.bus.specs.Outcomes.{after};
+ghost use Rattle.bus.specs.Seen.{seen};
 ghost use Rattle.bus.specs.Registers.{register_read, read_at, register_written, written_at};
 
 use crate::image::{FIRST, image_at};
 use crate::parts::Parts;
+use crate::view::View;
 use counters::buzzer::Buzzer;
 use faults::Fault;
-
-// The bytes of RAM.
-const RAM: u16 = 0x80;
 
 // The bits of TM0, TM1 and CKCTLR that set a mode that is not there: CAP0; 16BIT, PWME and CAP1; RCWDT.
 const CAP0: u8 = 0x20;
@@ -24,25 +23,23 @@ const LOW: u8 = 0xe0;
 
 impl Parts {
     // The byte at an address, before the host's word.
-    pub fn read(&self, image: &[u8], host: u16, pc: u16, address: u16) -> Result<u8, Fault>
-        ensures { result ≡ read_at self.now image.now host pc address }
+    pub fn read(&self, view: View, address: u16) -> Result<u8, Fault>
+        ensures { result ≡ read_at self.now (seen view.entry) address }
     {
-        if address < RAM {
-            Ok(self.memory.ram[address as usize])
-        } else if address >= FIRST {
-            Ok(image_at(image, address))
-        } else {
-            self.read_register(host, pc, address)
+        match self.memory.get(address) {
+            Some(byte) => Ok(byte),
+            None if address >= FIRST => Ok(image_at(view.image, address)),
+            None => self.read_register(view, address),
         }
     }
 
-    fn read_register(&self, host: u16, pc: u16, address: u16) -> Result<u8, Fault>
-        ensures { result ≡ register_read self.now host pc address }
+    fn read_register(&self, view: View, address: u16) -> Result<u8, Fault>
+        ensures { result ≡ register_read self.now (seen view.entry) address }
     {
         match address {
-            0xc0 => Ok((self.ports.read(host) % 256) as u8),
-            0xc2 => Ok((self.ports.read(host) / 256 % 32) as u8),
-            0xc4 => Ok((self.ports.read(host) / 8192 % 4) as u8),
+            0xc0 => Ok((self.ports.read(view.host) % 256) as u8),
+            0xc2 => Ok((self.ports.read(view.host) / 256 % 32) as u8),
+            0xc4 => Ok((self.ports.read(view.host) / 8192 % 4) as u8),
             0xd0 => Ok(self.timers.pair[0].control),
             0xd1 => Ok(self.timers.pair[0].count),
             0xd2 => Ok(self.timers.pair[1].control),
@@ -56,10 +53,10 @@ impl Parts {
             0xed => Ok(self.basic.wdtr),
             0xef => Ok(self.pfdr),
             0xc1 | 0xc3 | 0xc5 | 0xca | 0xcb | 0xcc | 0xd3 | 0xde => Err(Fault::ReadOfWriteOnly {
-                pc,
+                pc: view.pc,
                 address,
             }),
-            _ => Err(Fault::Unoccupied { pc, address }),
+            _ => Err(view.unoccupied(address)),
         }
     }
 
@@ -67,11 +64,9 @@ impl Parts {
     pub fn write(&mut self, pc: u16, address: u16, v: u8) -> Result<(), Fault>
         ensures { after result self.new ≡ written_at self.old pc address v }
     {
-        if address < RAM {
-            self.memory.ram[address as usize] = v;
-            Ok(())
-        } else {
-            self.write_register(pc, address, v)
+        match self.memory.set(address, v) {
+            Some(()) => Ok(()),
+            None => self.write_register(pc, address, v),
         }
     }
 

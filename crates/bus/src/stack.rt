@@ -6,44 +6,34 @@ use crate::parts::Parts;
 use faults::Fault;
 
 // The stack lies in RAM.
-const RAM: u8 = 0x80;
-
 impl Parts {
     // Stores a byte at SP, and lowers it.
     pub fn push(&mut self, pc: u16, v: u8) -> Result<(), Fault>
         ensures { after result self.new ≡ byte_pushed self.old pc v }
     {
-        let address = self.registers.push_address();
-        if address >= RAM {
-            return Err(Fault::Unoccupied {
-                pc,
-                address: address as u16,
-            });
-        }
-        self.memory.ram[address as usize] = v;
-        Ok(())
+        let address = self.registers.push_address() as u16;
+        self.memory
+            .set(address, v)
+            .ok_or(Fault::Unoccupied { pc, address })
     }
 
     // Raises SP, and reads the byte there.
     pub fn pull(&mut self, pc: u16) -> Result<u8, Fault>
         ensures { outcome result self.new ≡ byte_pulled self.old pc }
     {
-        let address = self.registers.pull_address();
-        if address >= RAM {
-            return Err(Fault::Unoccupied {
-                pc,
-                address: address as u16,
-            });
-        }
-        Ok(self.memory.ram[address as usize])
+        let address = self.registers.pull_address() as u16;
+        self.memory
+            .get(address)
+            .ok_or(Fault::Unoccupied { pc, address })
     }
 
     // A word, high byte first.
     pub fn push_word(&mut self, pc: u16, w: u16) -> Result<(), Fault>
         ensures { after result self.new ≡ word_pushed self.old pc w }
     {
-        self.push(pc, (w / 256) as u8)?;
-        self.push(pc, (w % 256) as u8)
+        let [high, low] = w.to_be_bytes();
+        self.push(pc, high)?;
+        self.push(pc, low)
     }
 
     // A word, low byte first.
@@ -52,6 +42,6 @@ impl Parts {
     {
         let low = self.pull(pc)?;
         let high = self.pull(pc)?;
-        Ok(low as u16 + 256 * high as u16)
+        Ok(u16::from_le_bytes([low, high]))
     }
 }

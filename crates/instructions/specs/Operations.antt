@@ -21,6 +21,7 @@ use Rattle.cpu.specs.State.{with_pc, same, flag_of, index_of, byte_of, restored,
 use Rattle.cpu.specs.Effects.{calculated, compared, index_loaded, shifted, shifted_a, shifted_index, lowered_y}
 use Rattle.bus.specs.declared.parts.Parts.{Parts}
 use Rattle.bus.specs.With.{parts_with_registers}
+use Rattle.bus.specs.Seen.{Seen}
 use Rattle.bus.specs.Outcomes.{bind}
 use Rattle.bus.specs.Registers.{image_word, read_at, written_at}
 use Rattle.bus.specs.Fetch.{fetched, word_fetched, direct, addressed, operand_of, byte_pushed, byte_pulled, word_pushed, word_pulled}
@@ -32,34 +33,34 @@ by f m = parts_with_registers m (f m.registers)
 abbrev pub gone_to : Parts → ℕ → Parts
 gone_to m address = by (λ s. with_pc s address) m
 
-abbrev pub calculated_with : Parts → List ℕ → ℕ → ℕ → AluOp → Operand → Result Parts Fault
-calculated_with m image host pc o operand = bind (operand_of m image host pc operand) (λ s. Ok (by (λ r. calculated r o s.1) s.0))
+abbrev pub calculated_with : Parts → Seen → AluOp → Operand → Result Parts Fault
+calculated_with m view o operand = bind (operand_of m view operand) (λ s. Ok (by (λ r. calculated r o s.1) s.0))
 
-abbrev pub loaded_with : Parts → List ℕ → ℕ → ℕ → Index → Operand → Result Parts Fault
-loaded_with m image host pc i operand = bind (operand_of m image host pc operand) (λ s. Ok (by (λ r. index_loaded r i s.1) s.0))
+abbrev pub loaded_with : Parts → Seen → Index → Operand → Result Parts Fault
+loaded_with m view i operand = bind (operand_of m view operand) (λ s. Ok (by (λ r. index_loaded r i s.1) s.0))
 
-abbrev pub compared_with : Parts → List ℕ → ℕ → ℕ → Index → Operand → Result Parts Fault
-compared_with m image host pc i operand = bind (operand_of m image host pc operand) (λ s. Ok (by (λ r. compared r (index_of r i) s.1) s.0))
+abbrev pub compared_with : Parts → Seen → Index → Operand → Result Parts Fault
+compared_with m view i operand = bind (operand_of m view operand) (λ s. Ok (by (λ r. compared r (index_of r i) s.1) s.0))
 
 -- stores only write
-abbrev pub stored_a : Parts → List ℕ → ℕ → ℕ → Place → Result Parts Fault
-stored_a m image host pc place = bind (addressed m image host pc place) (λ s. written_at s.0 pc s.1 s.0.registers.a)
+abbrev pub stored_a : Parts → Seen → Place → Result Parts Fault
+stored_a m view place = bind (addressed m view place) (λ s. written_at s.0 view.pc s.1 s.0.registers.a)
 
-abbrev pub stored_index : Parts → List ℕ → ℕ → ℕ → Index → Place → Result Parts Fault
-stored_index m image host pc i place = bind (addressed m image host pc place) (λ s. written_at s.0 pc s.1 (index_of s.0.registers i))
+abbrev pub stored_index : Parts → Seen → Index → Place → Result Parts Fault
+stored_index m view i place = bind (addressed m view place) (λ s. written_at s.0 view.pc s.1 (index_of s.0.registers i))
 
 -- LDM: a number, then dp
-abbrev pub number_stored : Parts → List ℕ → ℕ → Result Parts Fault
-number_stored m image pc = bind (fetched m image pc) (λ s. bind (fetched s.0 image pc) (λ t. written_at t.0 pc (direct t.0 t.1) s.1))
+abbrev pub number_stored : Parts → Seen → Result Parts Fault
+number_stored m view = bind (fetched m view) (λ s. bind (fetched s.0 view) (λ t. written_at t.0 view.pc (direct t.0 t.1) s.1))
 
 -- shifts, INC and DEC: memory is read and then written
-abbrev pub shifted_at : Parts → List ℕ → ℕ → ℕ → ShiftOp → Target → Result Parts Fault
-shifted_at m image host pc o tg.A = Ok (by (λ r. shifted_a r o) m)
-shifted_at m image host pc o (tg.Index i) = Ok (by (λ r. shifted_index r o i) m)
-shifted_at m image host pc o (tg.At place) =
-    bind (addressed m image host pc place)
-    (λ s. bind (read_at s.0 image host pc s.1)
-    (λ v. let t : Registers × ℕ = shifted s.0.registers o v in written_at (parts_with_registers s.0 t.0) pc s.1 t.1))
+abbrev pub shifted_at : Parts → Seen → ShiftOp → Target → Result Parts Fault
+shifted_at m view o tg.A = Ok (by (λ r. shifted_a r o) m)
+shifted_at m view o (tg.Index i) = Ok (by (λ r. shifted_index r o i) m)
+shifted_at m view o (tg.At place) =
+    bind (addressed m view place)
+    (λ s. bind (read_at s.0 view s.1)
+    (λ v. let t : Registers × ℕ = shifted s.0.registers o v in written_at (parts_with_registers s.0 t.0) view.pc s.1 t.1))
 
 -- a bit of a byte
 abbrev pub has_mask : ℕ → Bit → Bool
@@ -68,29 +69,29 @@ has_mask v b = not (bit_and v (mask_of b) == 0)
 abbrev pub with_mask : ℕ → Bit → Bool → ℕ
 with_mask v b on = cond on (bit_or v (mask_of b)) (bit_and v (255 - mask_of b))
 
-abbrev pub bit_put : Parts → List ℕ → ℕ → ℕ → Bit → Bool → Result Parts Fault
-bit_put m image host pc b on =
-    bind (addressed m image host pc Place.Dp) (λ s. bind (read_at s.0 image host pc s.1) (λ v. written_at s.0 pc s.1 (with_mask v b on)))
+abbrev pub bit_put : Parts → Seen → Bit → Bool → Result Parts Fault
+bit_put m view b on =
+    bind (addressed m view Place.Dp) (λ s. bind (read_at s.0 view s.1) (λ v. written_at s.0 view.pc s.1 (with_mask v b on)))
 
 -- a branch, whose distance is fetched ahead of all that it reads: it goes there if its condition holds
 abbrev pub jumped_if : Parts → ℕ → Bool → Parts × Bool
 jumped_if m rel taken = (cond taken (by (λ r. jumped r rel) m) m, taken)
 
-abbrev pub branched : Parts → List ℕ → ℕ → Bool → Result (Parts × Bool) Fault
-branched m image pc taken = bind (fetched m image pc) (λ s. Ok (jumped_if s.0 s.1 taken))
+abbrev pub branched : Parts → Seen → Bool → Result (Parts × Bool) Fault
+branched m view taken = bind (fetched m view) (λ s. Ok (jumped_if s.0 s.1 taken))
 
-abbrev pub branched_on : Parts → List ℕ → ℕ → ℕ → Branch → Result (Parts × Bool) Fault
-branched_on m image host pc (br.BitOfA b on) = branched m image pc (same (has_mask m.registers.a b) on)
-branched_on m image host pc (br.BitOfDp b on) =
-    bind (addressed m image host pc Place.Dp)
-    (λ s. bind (fetched s.0 image pc) (λ t. bind (read_at t.0 image host pc s.1) (λ v. Ok (jumped_if t.0 t.1 (same (has_mask v b) on)))))
-branched_on m image host pc (br.Flag f on) = branched m image pc (same (flag_of m.registers f) on)
-branched_on m image host pc br.DbneDp =
-    bind (addressed m image host pc Place.Dp)
-    (λ s. bind (fetched s.0 image pc)
-    (λ t. bind (read_at t.0 image host pc s.1)
-    (λ v. let w = (v + 255) % 256 in bind (written_at t.0 pc s.1 w) (λ u. Ok (jumped_if u t.1 (not (w == 0)))))))
-branched_on m image host pc br.DbneY = let t : Registers × Bool = lowered_y m.registers in branched (parts_with_registers m t.0) image pc t.1
+abbrev pub branched_on : Parts → Seen → Branch → Result (Parts × Bool) Fault
+branched_on m view (br.BitOfA b on) = branched m view (same (has_mask m.registers.a b) on)
+branched_on m view (br.BitOfDp b on) =
+    bind (addressed m view Place.Dp)
+    (λ s. bind (fetched s.0 view) (λ t. bind (read_at t.0 view s.1) (λ v. Ok (jumped_if t.0 t.1 (same (has_mask v b) on)))))
+branched_on m view (br.Flag f on) = branched m view (same (flag_of m.registers f) on)
+branched_on m view br.DbneDp =
+    bind (addressed m view Place.Dp)
+    (λ s. bind (fetched s.0 view)
+    (λ t. bind (read_at t.0 view s.1)
+    (λ v. let w = (v + 255) % 256 in bind (written_at t.0 view.pc s.1 w) (λ u. Ok (jumped_if u t.1 (not (w == 0)))))))
+branched_on m view br.DbneY = let t : Registers × Bool = lowered_y m.registers in branched (parts_with_registers m t.0) view t.1
 
 -- PUSH and POP
 abbrev pub pushed_saved : Parts → ℕ → Saved → Result Parts Fault
@@ -103,22 +104,22 @@ popped_saved m pc what = bind (byte_pulled m pc) (λ s. Ok (by (λ r. restored r
 abbrev pub called_at : Parts → ℕ → ℕ → Result Parts Fault
 called_at m pc address = bind (word_pushed m pc m.registers.pc) (λ s. Ok (gone_to s address))
 
-abbrev pub called : Parts → List ℕ → ℕ → Result Parts Fault
-called m image pc = bind (word_fetched m image pc) (λ s. called_at s.0 pc s.1)
+abbrev pub called : Parts → Seen → Result Parts Fault
+called m view = bind (word_fetched m view) (λ s. called_at s.0 view.pc s.1)
 
-abbrev pub page_called : Parts → List ℕ → ℕ → Result Parts Fault
-page_called m image pc = bind (fetched m image pc) (λ s. called_at s.0 pc (0xFF00 + s.1))
+abbrev pub page_called : Parts → Seen → Result Parts Fault
+page_called m view = bind (fetched m view) (λ s. called_at s.0 view.pc (0xFF00 + s.1))
 
-abbrev pub table_called : Parts → List ℕ → ℕ → ℕ → Result Parts Fault
-table_called m image pc n = called_at m pc (image_word image (0xFFDE - 2 * n))
+abbrev pub table_called : Parts → Seen → ℕ → Result Parts Fault
+table_called m view n = called_at m view.pc (image_word view.image (0xFFDE - 2 * n))
 
 -- BRK and interrupts push PC and PSW, clear I, and go to a vector's word
 abbrev pub interrupted : Parts → List ℕ → ℕ → ℕ → Result Parts Fault
 interrupted m image pc vector =
     bind (word_pushed m pc m.registers.pc) (λ s. bind (byte_pushed s pc (packed s.registers.flags)) (λ t. Ok (gone_to (by (λ r. switched r Di) t) (image_word image vector))))
 
-abbrev pub broke : Parts → List ℕ → ℕ → Result Parts Fault
-broke m image pc = interrupted (by broken m) image pc 0xFFDE
+abbrev pub broke : Parts → Seen → Result Parts Fault
+broke m view = interrupted (by broken m) view.image view.pc 0xFFDE
 
 abbrev pub returned : Parts → ℕ → Result Parts Fault
 returned m pc = bind (word_pulled m pc) (λ s. Ok (gone_to s.0 s.1))

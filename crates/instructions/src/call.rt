@@ -1,9 +1,11 @@
 ghost use Rattle.std.specs.Prelude.{◌≡◌};
 ghost use Rattle.bus.specs.Outcomes.{after};
+ghost use Rattle.bus.specs.Seen.{seen};
 ghost use Rattle.instructions.specs.Operations.{called_at, called, page_called, table_called, interrupted, broke, returned, returned_from_interrupt};
 
 use bus::image::image_word;
 use bus::parts::Parts;
+use bus::view::View;
 use faults::Fault;
 use sheet::operation::FlagOp;
 
@@ -14,69 +16,69 @@ const TCALL0: u16 = 0xffde;
 const PCALL: u16 = 0xff00;
 
 // Pushes PC and goes to an address.
-fn call_at(m: &mut Parts, pc: u16, address: u16) -> Result<(), Fault>
-    ensures { after result m.new ≡ called_at m.old pc address }
+fn call_at(parts: &mut Parts, pc: u16, address: u16) -> Result<(), Fault>
+    ensures { after result parts.new ≡ called_at parts.old pc address }
 {
-    m.push_word(pc, m.registers.pc)?;
-    m.registers.pc = address;
+    parts.push_word(pc, parts.registers.pc)?;
+    parts.registers.pc = address;
     Ok(())
 }
 
-pub(crate) fn call(m: &mut Parts, image: &[u8], pc: u16) -> Result<(), Fault>
-    ensures { after result m.new ≡ called m.old image.now pc }
+pub(crate) fn call(parts: &mut Parts, view: View) -> Result<(), Fault>
+    ensures { after result parts.new ≡ called parts.old (seen view.entry) }
 {
-    let address = m.fetch_word(image, pc)?;
-    call_at(m, pc, address)
+    let address = parts.fetch_word(view)?;
+    call_at(parts, view.pc, address)
 }
 
-pub(crate) fn page_call(m: &mut Parts, image: &[u8], pc: u16) -> Result<(), Fault>
-    ensures { after result m.new ≡ page_called m.old image.now pc }
+pub(crate) fn page_call(parts: &mut Parts, view: View) -> Result<(), Fault>
+    ensures { after result parts.new ≡ page_called parts.old (seen view.entry) }
 {
-    let u = m.fetch(image, pc)?;
-    call_at(m, pc, PCALL + u as u16)
+    let u = parts.fetch(view)?;
+    call_at(parts, view.pc, PCALL + u as u16)
 }
 
-pub(crate) fn table_call(m: &mut Parts, image: &[u8], pc: u16, n: u8) -> Result<(), Fault>
-    ensures { after result m.new ≡ table_called m.old image.now pc n }
+pub(crate) fn table_call(parts: &mut Parts, view: View, n: u8) -> Result<(), Fault>
+    ensures { after result parts.new ≡ table_called parts.old (seen view.entry) n }
 {
-    let address = image_word(image, TCALL0 - 2 * n as u16);
-    call_at(m, pc, address)
+    let address = image_word(view.image, TCALL0 - 2 * n as u16);
+    call_at(parts, view.pc, address)
 }
 
-// Pushes PC and PSW, clears I, and goes to a vector's word. `pc` is what a fault names.
-pub fn interrupt(m: &mut Parts, image: &[u8], pc: u16, vector: u16) -> Result<(), Fault>
-    ensures { after result m.new ≡ interrupted m.old image.now pc vector }
+// Pushes PC and PSW, clears I, and goes to a vector's word. `view.pc` is what a fault names.
+pub fn interrupt(parts: &mut Parts, image: &[u8], pc: u16, vector: u16) -> Result<(), Fault>
+    ensures { after result parts.new ≡ interrupted parts.old image.now pc vector }
 {
-    m.push_word(pc, m.registers.pc)?;
-    let psw = m.registers.psw();
-    m.push(pc, psw)?;
-    m.registers.switch(FlagOp::Di);
-    m.registers.pc = image_word(image, vector);
+    parts.push_word(pc, parts.registers.pc)?;
+    let psw = parts.registers.psw();
+    parts.push(pc, psw)?;
+    parts.registers.switch(FlagOp::Di);
+    parts.registers.pc = image_word(image, vector);
     Ok(())
 }
 
 // BRK.
-pub(crate) fn software_break(m: &mut Parts, image: &[u8], pc: u16) -> Result<(), Fault>
-    ensures { after result m.new ≡ broke m.old image.now pc }
+pub(crate) fn software_break(parts: &mut Parts, view: View) -> Result<(), Fault>
+    ensures { after result parts.new ≡ broke parts.old (seen view.entry) }
 {
-    m.registers.set_break();
-    interrupt(m, image, pc, TCALL0)
+    parts.registers.set_break();
+    interrupt(parts, view.image, view.pc, TCALL0)
 }
 
-pub(crate) fn return_from_call(m: &mut Parts, pc: u16) -> Result<(), Fault>
-    ensures { after result m.new ≡ returned m.old pc }
+pub(crate) fn return_from_call(parts: &mut Parts, pc: u16) -> Result<(), Fault>
+    ensures { after result parts.new ≡ returned parts.old pc }
 {
-    let address = m.pull_word(pc)?;
-    m.registers.pc = address;
+    let address = parts.pull_word(pc)?;
+    parts.registers.pc = address;
     Ok(())
 }
 
-pub(crate) fn return_from_interrupt(m: &mut Parts, pc: u16) -> Result<(), Fault>
-    ensures { after result m.new ≡ returned_from_interrupt m.old pc }
+pub(crate) fn return_from_interrupt(parts: &mut Parts, pc: u16) -> Result<(), Fault>
+    ensures { after result parts.new ≡ returned_from_interrupt parts.old pc }
 {
-    let psw = m.pull(pc)?;
-    let address = m.pull_word(pc)?;
-    m.registers.set_psw(psw);
-    m.registers.pc = address;
+    let psw = parts.pull(pc)?;
+    let address = parts.pull_word(pc)?;
+    parts.registers.set_psw(psw);
+    parts.registers.pc = address;
     Ok(())
 }

@@ -1,124 +1,100 @@
 ghost use Rattle.std.specs.Prelude.{◌≡◌};
 ghost use Rattle.bus.specs.Outcomes.{after};
+ghost use Rattle.bus.specs.Seen.{seen};
 ghost use Rattle.instructions.specs.Operations.{calculated_with, loaded_with, compared_with, stored_a, stored_index, number_stored, shifted_at, with_mask, bit_put, pushed_saved, popped_saved};
 
 use bus::parts::Parts;
+use bus::view::View;
 use faults::Fault;
 use sheet::operation::{AluOp, Bit, Index, Operand, Place, Saved, ShiftOp, Target};
 
 // ADC, SBC, CMP, OR, AND, EOR and LDA.
 pub(crate) fn calculate(
-    m: &mut Parts,
-    image: &[u8],
-    host: u16,
-    pc: u16,
+    parts: &mut Parts,
+    view: View,
     op: AluOp,
     operand: Operand,
 ) -> Result<(), Fault>
-    ensures { after result m.new ≡ calculated_with m.old image.now host pc op operand }
+    ensures { after result parts.new ≡ calculated_with parts.old (seen view.entry) op operand }
 {
-    let v = m.operand(image, host, pc, operand)?;
-    m.registers.calculate(op, v);
+    let v = parts.operand(view, operand)?;
+    parts.registers.calculate(op, v);
     Ok(())
 }
 
 // LDX and LDY.
 pub(crate) fn load(
-    m: &mut Parts,
-    image: &[u8],
-    host: u16,
-    pc: u16,
+    parts: &mut Parts,
+    view: View,
     index: Index,
     operand: Operand,
 ) -> Result<(), Fault>
-    ensures { after result m.new ≡ loaded_with m.old image.now host pc index operand }
+    ensures { after result parts.new ≡ loaded_with parts.old (seen view.entry) index operand }
 {
-    let v = m.operand(image, host, pc, operand)?;
-    m.registers.load(index, v);
+    let v = parts.operand(view, operand)?;
+    parts.registers.load(index, v);
     Ok(())
 }
 
 // CMPX and CMPY.
 pub(crate) fn compare(
-    m: &mut Parts,
-    image: &[u8],
-    host: u16,
-    pc: u16,
+    parts: &mut Parts,
+    view: View,
     index: Index,
     operand: Operand,
 ) -> Result<(), Fault>
-    ensures { after result m.new ≡ compared_with m.old image.now host pc index operand }
+    ensures { after result parts.new ≡ compared_with parts.old (seen view.entry) index operand }
 {
-    let v = m.operand(image, host, pc, operand)?;
-    m.registers.compare(index, v);
+    let v = parts.operand(view, operand)?;
+    parts.registers.compare(index, v);
     Ok(())
 }
 
 // STA.
-pub(crate) fn store_a(
-    m: &mut Parts,
-    image: &[u8],
-    host: u16,
-    pc: u16,
-    place: Place,
-) -> Result<(), Fault>
-    ensures { after result m.new ≡ stored_a m.old image.now host pc place }
+pub(crate) fn store_a(parts: &mut Parts, view: View, place: Place) -> Result<(), Fault>
+    ensures { after result parts.new ≡ stored_a parts.old (seen view.entry) place }
 {
-    let address = m.address_of(image, host, pc, place)?;
-    m.write(pc, address, m.registers.a)
+    let address = parts.address_of(view, place)?;
+    parts.write(view.pc, address, parts.registers.a)
 }
 
 // STX and STY.
-pub(crate) fn store(
-    m: &mut Parts,
-    image: &[u8],
-    host: u16,
-    pc: u16,
-    index: Index,
-    place: Place,
-) -> Result<(), Fault>
-    ensures { after result m.new ≡ stored_index m.old image.now host pc index place }
+pub(crate) fn store(parts: &mut Parts, view: View, index: Index, place: Place) -> Result<(), Fault>
+    ensures { after result parts.new ≡ stored_index parts.old (seen view.entry) index place }
 {
-    let address = m.address_of(image, host, pc, place)?;
-    let v = m.registers.index(index);
-    m.write(pc, address, v)
+    let address = parts.address_of(view, place)?;
+    let v = parts.registers.index(index);
+    parts.write(view.pc, address, v)
 }
 
 // LDM.
-pub(crate) fn store_number(m: &mut Parts, image: &[u8], pc: u16) -> Result<(), Fault>
-    ensures { after result m.new ≡ number_stored m.old image.now pc }
+pub(crate) fn store_number(parts: &mut Parts, view: View) -> Result<(), Fault>
+    ensures { after result parts.new ≡ number_stored parts.old (seen view.entry) }
 {
-    let v = m.fetch(image, pc)?;
-    let d = m.fetch(image, pc)?;
-    let address = m.registers.direct(d);
-    m.write(pc, address, v)
+    let v = parts.fetch(view)?;
+    let d = parts.fetch(view)?;
+    let address = parts.registers.direct(d);
+    parts.write(view.pc, address, v)
 }
 
 // Shifts, INC and DEC.
-pub(crate) fn shift(
-    m: &mut Parts,
-    image: &[u8],
-    host: u16,
-    pc: u16,
-    op: ShiftOp,
-    target: Target,
-) -> Result<(), Fault>
-    ensures { after result m.new ≡ shifted_at m.old image.now host pc op target }
+pub(crate) fn shift(parts: &mut Parts, view: View, op: ShiftOp, target: Target) -> Result<(), Fault>
+    ensures { after result parts.new ≡ shifted_at parts.old (seen view.entry) op target }
 {
     match target {
         Target::A => {
-            m.registers.shift_a(op);
+            parts.registers.shift_a(op);
             Ok(())
         }
         Target::Index(index) => {
-            m.registers.shift_index(op, index);
+            parts.registers.shift_index(op, index);
             Ok(())
         }
         Target::At(place) => {
-            let address = m.address_of(image, host, pc, place)?;
-            let old = m.read(image, host, pc, address)?;
-            let v = m.registers.shift(op, old);
-            m.write(pc, address, v)
+            let address = parts.address_of(view, place)?;
+            let old = parts.read(view, address)?;
+            let v = parts.registers.shift(op, old);
+            parts.write(view.pc, address, v)
         }
     }
 }
@@ -131,35 +107,28 @@ fn with_bit(v: u8, bit: Bit, on: bool) -> u8
 }
 
 // SET1 and CLR1.
-pub(crate) fn put_bit(
-    m: &mut Parts,
-    image: &[u8],
-    host: u16,
-    pc: u16,
-    bit: Bit,
-    on: bool,
-) -> Result<(), Fault>
-    ensures { after result m.new ≡ bit_put m.old image.now host pc bit on }
+pub(crate) fn put_bit(parts: &mut Parts, view: View, bit: Bit, on: bool) -> Result<(), Fault>
+    ensures { after result parts.new ≡ bit_put parts.old (seen view.entry) bit on }
 {
-    let address = m.address_of(image, host, pc, Place::Dp)?;
-    let old = m.read(image, host, pc, address)?;
+    let address = parts.address_of(view, Place::Dp)?;
+    let old = parts.read(view, address)?;
     let v = with_bit(old, bit, on);
-    m.write(pc, address, v)
+    parts.write(view.pc, address, v)
 }
 
 // PUSH.
-pub(crate) fn push(m: &mut Parts, pc: u16, what: Saved) -> Result<(), Fault>
-    ensures { after result m.new ≡ pushed_saved m.old pc what }
+pub(crate) fn push(parts: &mut Parts, pc: u16, what: Saved) -> Result<(), Fault>
+    ensures { after result parts.new ≡ pushed_saved parts.old pc what }
 {
-    let v = m.registers.saved(what);
-    m.push(pc, v)
+    let v = parts.registers.saved(what);
+    parts.push(pc, v)
 }
 
 // POP.
-pub(crate) fn pop(m: &mut Parts, pc: u16, what: Saved) -> Result<(), Fault>
-    ensures { after result m.new ≡ popped_saved m.old pc what }
+pub(crate) fn pop(parts: &mut Parts, pc: u16, what: Saved) -> Result<(), Fault>
+    ensures { after result parts.new ≡ popped_saved parts.old pc what }
 {
-    let v = m.pull(pc)?;
-    m.registers.restore(what, v);
+    let v = parts.pull(pc)?;
+    parts.registers.restore(what, v);
     Ok(())
 }

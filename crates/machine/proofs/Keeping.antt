@@ -22,6 +22,7 @@ use Rattle.sheet.specs.declared.operation.Operand.TheVariants.{Imm, At}
 use Rattle.sheet.specs.declared.operation.Operation.{Operation}
 use Rattle.sheet.specs.declared.operation.Operation.TheVariants as op
 use Rattle.bus.specs.declared.parts.Parts.{Parts}
+use Rattle.bus.specs.Seen.{Seen}
 use Rattle.bus.specs.Outcomes.{after, bind}
 use Rattle.bus.specs.Registers.{register_written, written_at}
 use Rattle.bus.specs.Fetch.{fetched, word_fetched, direct, addressed, operand_of, byte_pushed, byte_pulled, word_pushed, word_pulled}
@@ -67,24 +68,24 @@ after_read : {Y : Type 0} {Q : Y → Type 0} (r : Result ℕ Fault) (f : ℕ →
 after_read (Ok v) f g = g v
 after_read (Err e) f g = stops
 
-fetches : (m : Parts) (image : List ℕ) (pc : ℕ) → Kept m → All Keeps (fetched m image pc)
-fetches m image pc h = either _ _ _ (goes h) stops
+fetches : (m : Parts) (view : Seen) → Kept m → All Keeps (fetched m view)
+fetches m view h = either _ _ _ (goes h) stops
 
-fetches_word : (m : Parts) (image : List ℕ) (pc : ℕ) → Kept m → All Keeps (word_fetched m image pc)
-fetches_word m image pc h = then_all _ (fetches m image pc h) (λ s k. then_all _ (fetches s.0 image pc k) (λ t l. goes l))
+fetches_word : (m : Parts) (view : Seen) → Kept m → All Keeps (word_fetched m view)
+fetches_word m view h = then_all _ (fetches m view h) (λ s k. then_all _ (fetches s.0 view k) (λ t l. goes l))
 
-addresses : (m : Parts) (image : List ℕ) (host pc : ℕ) (place : Place) → Kept m → All Keeps (addressed m image host pc place)
-addresses m image host pc Dp h = then_all _ (fetches m image pc h) (λ s k. goes k)
-addresses m image host pc DpX h = then_all _ (fetches m image pc h) (λ s k. goes k)
-addresses m image host pc Abs h = fetches_word m image pc h
-addresses m image host pc AtX h = goes h
-addresses m image host pc AbsY h = then_all _ (fetches_word m image pc h) (λ s k. goes k)
-addresses m image host pc IndX h = then_all _ (fetches m image pc h) (λ s k. after_read _ _ (λ w. goes k))
-addresses m image host pc IndY h = then_all _ (fetches m image pc h) (λ s k. after_read _ _ (λ w. goes k))
+addresses : (m : Parts) (view : Seen) (place : Place) → Kept m → All Keeps (addressed m view place)
+addresses m view Dp h = then_all _ (fetches m view h) (λ s k. goes k)
+addresses m view DpX h = then_all _ (fetches m view h) (λ s k. goes k)
+addresses m view Abs h = fetches_word m view h
+addresses m view AtX h = goes h
+addresses m view AbsY h = then_all _ (fetches_word m view h) (λ s k. goes k)
+addresses m view IndX h = then_all _ (fetches m view h) (λ s k. after_read _ _ (λ w. goes k))
+addresses m view IndY h = then_all _ (fetches m view h) (λ s k. after_read _ _ (λ w. goes k))
 
-operands : (m : Parts) (image : List ℕ) (host pc : ℕ) (operand : Operand) → Kept m → All Keeps (operand_of m image host pc operand)
-operands m image host pc Imm h = fetches m image pc h
-operands m image host pc (At place) h = then_all _ (addresses m image host pc place h) (λ s k. after_read _ _ (λ v. goes k))
+operands : (m : Parts) (view : Seen) (operand : Operand) → Kept m → All Keeps (operand_of m view operand)
+operands m view Imm h = fetches m view h
+operands m view (At place) h = then_all _ (addresses m view place h) (λ s k. after_read _ _ (λ v. goes k))
 
 -- a write of BUR clears the count, and no other touches it
 writes_register : (m : Parts) (pc address v : ℕ) → Kept m → All Kept (register_written m pc address v)
@@ -138,68 +139,68 @@ jumps : (m : Parts) (rel : ℕ) (taken : Bool) → Kept m → Keeps (jumped_if m
 jumps m rel true h = h
 jumps m rel false h = h
 
-branches : (m : Parts) (image : List ℕ) (pc : ℕ) (taken : Bool) → Kept m → All Keeps (branched m image pc taken)
-branches m image pc taken h = then_all _ (fetches m image pc h) (λ s k. goes (jumps s.0 s.1 taken k))
+branches : (m : Parts) (view : Seen) (taken : Bool) → Kept m → All Keeps (branched m view taken)
+branches m view taken h = then_all _ (fetches m view h) (λ s k. goes (jumps s.0 s.1 taken k))
 
-branches_on : (m : Parts) (image : List ℕ) (host pc : ℕ) (b : Branch) → Kept m → All Keeps (branched_on m image host pc b)
-branches_on m image host pc (br.BitOfA b on) h = branches m image pc _ h
-branches_on m image host pc (br.BitOfDp b on) h =
-    then_all _ (addresses m image host pc Dp h) (λ s k. then_all _ (fetches s.0 image pc k) (λ t l. after_read _ _ (λ v. goes (jumps t.0 t.1 (same (has_mask v b) on) l))))
-branches_on m image host pc (br.Flag f on) h = branches m image pc _ h
-branches_on m image host pc br.DbneDp h =
-    then_all _ (addresses m image host pc Dp h)
-    (λ s k. then_all _ (fetches s.0 image pc k)
-    (λ t l. after_read _ _ (λ v. then_all _ (writes t.0 pc s.1 ((v + 255) % 256) l) (λ u n. goes (jumps u t.1 (not (eqb ((v + 255) % 256) 0)) n)))))
-branches_on m image host pc br.DbneY h = let t : Registers × Bool = lowered_y m.registers in branches (parts_with_registers m t.0) image pc t.1 h
+branches_on : (m : Parts) (view : Seen) (b : Branch) → Kept m → All Keeps (branched_on m view b)
+branches_on m view (br.BitOfA b on) h = branches m view _ h
+branches_on m view (br.BitOfDp b on) h =
+    then_all _ (addresses m view Dp h) (λ s k. then_all _ (fetches s.0 view k) (λ t l. after_read _ _ (λ v. goes (jumps t.0 t.1 (same (has_mask v b) on) l))))
+branches_on m view (br.Flag f on) h = branches m view _ h
+branches_on m view br.DbneDp h =
+    then_all _ (addresses m view Dp h)
+    (λ s k. then_all _ (fetches s.0 view k)
+    (λ t l. after_read _ _ (λ v. then_all _ (writes t.0 view.pc s.1 ((v + 255) % 256) l) (λ u n. goes (jumps u t.1 (not (eqb ((v + 255) % 256) 0)) n)))))
+branches_on m view br.DbneY h = let t : Registers × Bool = lowered_y m.registers in branches (parts_with_registers m t.0) view t.1 h
 
-shifts : (m : Parts) (image : List ℕ) (host pc : ℕ) (o : ShiftOp) (t : Target) → Kept m → All Kept (shifted_at m image host pc o t)
-shifts m image host pc o tg.A h = goes h
-shifts m image host pc o (tg.Index i) h = goes h
-shifts m image host pc o (tg.At place) h = then_all _ (addresses m image host pc place h) (λ s k. after_read _ _ (λ v. writes _ pc s.1 _ k))
+shifts : (m : Parts) (view : Seen) (o : ShiftOp) (t : Target) → Kept m → All Kept (shifted_at m view o t)
+shifts m view o tg.A h = goes h
+shifts m view o (tg.Index i) h = goes h
+shifts m view o (tg.At place) h = then_all _ (addresses m view place h) (λ s k. after_read _ _ (λ v. writes _ view.pc s.1 _ k))
 
-stores_a : (m : Parts) (image : List ℕ) (host pc : ℕ) (place : Place) → Kept m → All Kept (stored_a m image host pc place)
-stores_a m image host pc place h = then_all _ (addresses m image host pc place h) (λ s k. writes s.0 pc s.1 _ k)
+stores_a : (m : Parts) (view : Seen) (place : Place) → Kept m → All Kept (stored_a m view place)
+stores_a m view place h = then_all _ (addresses m view place h) (λ s k. writes s.0 view.pc s.1 _ k)
 
-calculates : (m : Parts) (image : List ℕ) (host pc : ℕ) (o : AluOp) (operand : Operand) → Kept m → All Kept (calculated_with m image host pc o operand)
-calculates m image host pc o operand h = then_all _ (operands m image host pc operand h) (λ s k. goes k)
+calculates : (m : Parts) (view : Seen) (o : AluOp) (operand : Operand) → Kept m → All Kept (calculated_with m view o operand)
+calculates m view o operand h = then_all _ (operands m view operand h) (λ s k. goes k)
 
-puts_bit : (m : Parts) (image : List ℕ) (host pc : ℕ) (b : Bit) (on : Bool) → Kept m → All Kept (bit_put m image host pc b on)
-puts_bit m image host pc b on h = then_all _ (addresses m image host pc Dp h) (λ s k. after_read _ _ (λ v. writes s.0 pc s.1 _ k))
+puts_bit : (m : Parts) (view : Seen) (b : Bit) (on : Bool) → Kept m → All Kept (bit_put m view b on)
+puts_bit m view b on h = then_all _ (addresses m view Dp h) (λ s k. after_read _ _ (λ v. writes s.0 view.pc s.1 _ k))
 
 plainly : (r : Result Parts Fault) → All Kept r → All Keeps (plain r)
 plainly r h = then_all _ h (λ s k. goes k)
 
-executes : (m : Parts) (image : List ℕ) (host pc : ℕ) (o : Operation) → Kept m → All Keeps (executed m image host pc o)
-executes m image host pc op.Unlisted h = stops
-executes m image host pc (op.Flag o) h = goes h
-executes m image host pc (op.Set1 b) h = plainly _ (puts_bit m image host pc b true h)
-executes m image host pc (op.Clr1 b) h = plainly _ (puts_bit m image host pc b false h)
-executes m image host pc (op.Branch b) h = branches_on m image host pc b h
-executes m image host pc (op.Alu o operand) h = plainly _ (calculates m image host pc o operand h)
-executes m image host pc (op.Sta place) h = plainly _ (stores_a m image host pc place h)
-executes m image host pc op.LdaNext h = then_all _ (calculates m image host pc AluOp.Lda (At AtX) h) (λ s k. goes k)
-executes m image host pc op.StaNext h = then_all _ (stores_a m image host pc AtX h) (λ s k. goes k)
-executes m image host pc op.Ldm h = plainly _ (then_all _ (fetches m image pc h) (λ s k. then_all _ (fetches s.0 image pc k) (λ t l. writes t.0 pc (direct t.0 t.1) s.1 l)))
-executes m image host pc (op.Shift o t) h = plainly _ (shifts m image host pc o t h)
-executes m image host pc (op.Transfer t) h = goes h
-executes m image host pc (op.Load i operand) h = plainly _ (then_all _ (operands m image host pc operand h) (λ s k. goes k))
-executes m image host pc (op.Compare i operand) h = plainly _ (then_all _ (operands m image host pc operand h) (λ s k. goes k))
-executes m image host pc (op.Store i place) h = plainly _ (then_all _ (addresses m image host pc place h) (λ s k. writes s.0 pc s.1 _ k))
-executes m image host pc (op.Push s) h = plainly _ (pushes m pc _ h)
-executes m image host pc (op.Pop s) h = plainly _ (then_all _ (pulls m pc h) (λ t k. goes k))
-executes m image host pc (op.Tcall n) h = plainly _ (calls_at m pc _ h)
-executes m image host pc op.Pcall h = plainly _ (then_all _ (fetches m image pc h) (λ s k. calls_at s.0 pc _ k))
-executes m image host pc op.Call h = plainly _ (then_all _ (fetches_word m image pc h) (λ s k. calls_at s.0 pc _ k))
-executes m image host pc op.Jmp h = then_all _ (fetches_word m image pc h) (λ s k. goes k)
-executes m image host pc op.Bra h = then_all _ (fetches m image pc h) (λ s k. goes k)
-executes m image host pc op.Brk h = plainly _ (interrupts (by broken m) image pc 0xFFDE h)
-executes m image host pc op.Ret h = plainly _ (then_all _ (pulls_word m pc h) (λ s k. goes k))
-executes m image host pc op.Reti h = plainly _ (then_all _ (pulls m pc h) (λ s k. then_all _ (pulls_word s.0 pc k) (λ t l. goes l)))
-executes m image host pc op.Stop h = goes h
-executes m image host pc op.Nop h = goes h
+executes : (m : Parts) (view : Seen) (o : Operation) → Kept m → All Keeps (executed m view o)
+executes m view op.Unlisted h = stops
+executes m view (op.Flag o) h = goes h
+executes m view (op.Set1 b) h = plainly _ (puts_bit m view b true h)
+executes m view (op.Clr1 b) h = plainly _ (puts_bit m view b false h)
+executes m view (op.Branch b) h = branches_on m view b h
+executes m view (op.Alu o operand) h = plainly _ (calculates m view o operand h)
+executes m view (op.Sta place) h = plainly _ (stores_a m view place h)
+executes m view op.LdaNext h = then_all _ (calculates m view AluOp.Lda (At AtX) h) (λ s k. goes k)
+executes m view op.StaNext h = then_all _ (stores_a m view AtX h) (λ s k. goes k)
+executes m view op.Ldm h = plainly _ (then_all _ (fetches m view h) (λ s k. then_all _ (fetches s.0 view k) (λ t l. writes t.0 view.pc (direct t.0 t.1) s.1 l)))
+executes m view (op.Shift o t) h = plainly _ (shifts m view o t h)
+executes m view (op.Transfer t) h = goes h
+executes m view (op.Load i operand) h = plainly _ (then_all _ (operands m view operand h) (λ s k. goes k))
+executes m view (op.Compare i operand) h = plainly _ (then_all _ (operands m view operand h) (λ s k. goes k))
+executes m view (op.Store i place) h = plainly _ (then_all _ (addresses m view place h) (λ s k. writes s.0 view.pc s.1 _ k))
+executes m view (op.Push s) h = plainly _ (pushes m view.pc _ h)
+executes m view (op.Pop s) h = plainly _ (then_all _ (pulls m view.pc h) (λ t k. goes k))
+executes m view (op.Tcall n) h = plainly _ (calls_at m view.pc _ h)
+executes m view op.Pcall h = plainly _ (then_all _ (fetches m view h) (λ s k. calls_at s.0 view.pc _ k))
+executes m view op.Call h = plainly _ (then_all _ (fetches_word m view h) (λ s k. calls_at s.0 view.pc _ k))
+executes m view op.Jmp h = then_all _ (fetches_word m view h) (λ s k. goes k)
+executes m view op.Bra h = then_all _ (fetches m view h) (λ s k. goes k)
+executes m view op.Brk h = plainly _ (interrupts (by broken m) view.image view.pc 0xFFDE h)
+executes m view op.Ret h = plainly _ (then_all _ (pulls_word m view.pc h) (λ s k. goes k))
+executes m view op.Reti h = plainly _ (then_all _ (pulls m view.pc h) (λ s k. then_all _ (pulls_word s.0 view.pc k) (λ t l. goes l)))
+executes m view op.Stop h = goes h
+executes m view op.Nop h = goes h
 
 instructs : (m : Parts) (image : List ℕ) (host : ℕ) → Kept m → All Keeps (instructed m image host)
-instructs m image host h = then_all _ (fetches m image m.registers.pc h) (λ s k. then_all _ (executes s.0 image host m.registers.pc (entry_at s.1).0 k) (λ t l. goes l))
+instructs m image host h = let view : Seen = record { image = image; host = host; pc = m.registers.pc } in then_all _ (fetches m view h) (λ s k. then_all _ (executes s.0 view (entry_at s.1).0 k) (λ t l. goes l))
 
 -- the third step and a move
 pub buzzer_ticks : (mode : Mode) (p : ℕ) (b : Buzzer) → b.count < 64 → (buzzer_ticked mode p b).count < 64
