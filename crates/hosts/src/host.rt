@@ -1,5 +1,5 @@
 ghost use Rattle.std.specs.Prelude.{◌≡◌, ℕ, ◌^◌, ◌<◌, Option};
-ghost use Rattle.hosts.specs.Marks.{level_at, Lawful};
+ghost use Rattle.hosts.specs.Marks.{level_at, Lawful, capped};
 
 // The first tick past every host's meaning, 2^48. A tick is one period of the chip's oscillator.
 pub const HORIZON: u64 = 1 << 48;
@@ -27,4 +27,11 @@ pub trait PinHost {
     fn quiet_mark(&self, t: u64) -> Option<u64>
         ensures rule { Lawful (meaning self.now) t result }
         ensures value { result ≡ mark self.now t };
+}
+
+// A turn as a mark: none from the horizon on.
+pub(crate) fn capped(turn: u64) -> Option<u64>
+    ensures { result ≡ capped turn }
+{
+    (turn < HORIZON).then_some(turn)
 }

@@ -26,7 +26,7 @@ impl<L: PinHost, R: PinHost> PinHost for Join<L, R> {
         match (self.left.quiet_mark(t), self.right.quiet_mark(t)) {
             (None, right) => right,
             (left, None) => left,
-            (Some(u), Some(v)) => Some(if u < v { u } else { v }),
+            (Some(u), Some(v)) => Some(u.min(v)),
         }
     }
 }

@@ -8,4 +8,5 @@ pub mod pulse;
 pub mod pulses;
 pub mod steady;
 pub mod wave;
+mod word;
 pub mod worked;

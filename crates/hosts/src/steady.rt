@@ -1,31 +1,33 @@
-ghost use Rattle.std.specs.Prelude.{◌≡◌, ℕ, ◌%◌, ◌^◌, ◌<◌, None};
+ghost use Rattle.std.specs.Prelude.{◌≡◌, ℕ, ◌%◌, ◌^◌, None};
 
-use crate::host::{HORIZON, PINS, PinHost};
+use crate::host::{HORIZON, PinHost};
+use crate::word::PinWord;
 
 // One word at every tick.
 #[derive(Drop)]
 pub struct Steady {
-    word: u16,
-    ghost pins: { word < 2 ^ 15 },
+    word: PinWord,
 }
 
 impl Steady {
     pub fn new(word: u16) -> Self
-        ensures { result.word ≡ word % 2 ^ 15 }
+        ensures { result.word.bits ≡ word % 2 ^ 15 }
     {
-        Steady { word: word & PINS }
+        Steady {
+            word: PinWord::new(word),
+        }
     }
 }
 
 impl PinHost for Steady {
-    ghost meaning = { λ s t. s.word };
+    ghost meaning = { λ s t. s.word.bits };
 
     ghost mark = { λ s t. None };
 
-    ghost words = { λ s t. s.pins };
+    ghost words = { λ s t. s.word.pins };
 
     fn levels(&self, t: u64) -> u16 {
-        if t < HORIZON { self.word } else { 0 }
+        self.word.shown(t < HORIZON)
     }
 
     fn quiet_mark(&self, _t: u64) -> Option<u64> {
