@@ -36,7 +36,7 @@ pub enum Fault {
 }
 
 impl Fault {
-    // The number that lines and tables show.
+    // The number that lines and tables show. An arm for each: `as` gives no number to an enum whose cases hold values.
     pub fn number(self) -> u8
         ensures { result ≡ number_of self }
     {
@@ -63,21 +63,16 @@ impl Fault {
         ensures { result ≡ (source_of self).layer }
     {
         match self {
-            Fault::ImageSize => Layer::Call,
-            Fault::GrantTooLarge => Layer::Call,
-            Fault::ChipSpent => Layer::Call,
-            Fault::PinChartUnfit => Layer::Chart,
-            Fault::ModeChartUnfit => Layer::Chart,
+            Fault::ImageSize | Fault::GrantTooLarge | Fault::ChipSpent | Fault::ShortLineBuffer =>
+                Layer::Call,
             Fault::NotOnSheet { .. } => Layer::Core,
-            Fault::Unoccupied { .. } => Layer::Bus,
-            Fault::ReadOfWriteOnly { .. } => Layer::Bus,
-            Fault::WriteToReadOnly { .. } => Layer::Bus,
-            Fault::UnsupportedMode { .. } => Layer::Bus,
-            Fault::NoPinPlace => Layer::Chart,
-            Fault::NoModePlace => Layer::Chart,
-            Fault::BadPulseList { .. } => Layer::Host,
-            Fault::WaveOutOfRange => Layer::Host,
-            Fault::ShortLineBuffer => Layer::Call,
+            Fault::Unoccupied { .. }
+            | Fault::ReadOfWriteOnly { .. }
+            | Fault::WriteToReadOnly { .. }
+            | Fault::UnsupportedMode { .. } => Layer::Bus,
+            Fault::PinChartUnfit | Fault::ModeChartUnfit | Fault::NoPinPlace | Fault::NoModePlace =>
+                Layer::Chart,
+            Fault::BadPulseList { .. } | Fault::WaveOutOfRange => Layer::Host,
         }
     }
 
@@ -86,11 +81,11 @@ impl Fault {
         ensures { result ≡ (source_of self).pc }
     {
         match self {
-            Fault::NotOnSheet { pc } => Some(pc),
-            Fault::Unoccupied { pc, .. } => Some(pc),
-            Fault::ReadOfWriteOnly { pc, .. } => Some(pc),
-            Fault::WriteToReadOnly { pc, .. } => Some(pc),
-            Fault::UnsupportedMode { pc, .. } => Some(pc),
+            Fault::NotOnSheet { pc }
+            | Fault::Unoccupied { pc, .. }
+            | Fault::ReadOfWriteOnly { pc, .. }
+            | Fault::WriteToReadOnly { pc, .. }
+            | Fault::UnsupportedMode { pc, .. } => Some(pc),
             _ => None,
         }
     }
@@ -100,10 +95,10 @@ impl Fault {
         ensures { result ≡ (source_of self).address }
     {
         match self {
-            Fault::Unoccupied { address, .. } => Some(address),
-            Fault::ReadOfWriteOnly { address, .. } => Some(address),
-            Fault::WriteToReadOnly { address, .. } => Some(address),
-            Fault::UnsupportedMode { address, .. } => Some(address),
+            Fault::Unoccupied { address, .. }
+            | Fault::ReadOfWriteOnly { address, .. }
+            | Fault::WriteToReadOnly { address, .. }
+            | Fault::UnsupportedMode { address, .. } => Some(address),
             _ => None,
         }
     }
