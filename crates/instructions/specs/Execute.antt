@@ -54,11 +54,11 @@ executed m view op.Nop = Ok (m, false)
 
 -- two ticks for each cycle, and two cycles more for a branch that is taken
 abbrev pub ticks_of : Entry → Bool → ℕ
-ticks_of e taken = cond taken (2 * e.2 + 4) (2 * e.2)
+ticks_of e taken = cond taken (2 * e.cycles + 4) (2 * e.cycles)
 
 -- the code at PC is fetched and takes effect whole; the answer is the ticks it takes
 abbrev pub instructed : Parts → List ℕ → ℕ → Result (Parts × ℕ) Fault
 instructed m image host =
     let view : Seen = record { image = image; host = host; pc = m.registers.pc } in
     bind (fetched m view)
-    (λ s. let e : Entry = entry_at s.1 in bind (executed s.0 view e.0) (λ t. Ok (t.0, ticks_of e t.1)))
+    (λ s. let e : Entry = entry_at s.1 in bind (executed s.0 view e.operation) (λ t. Ok (t.0, ticks_of e t.1)))

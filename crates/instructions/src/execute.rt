@@ -88,11 +88,11 @@ fn execute(parts: &mut Parts, view: View, operation: Operation) -> Result<bool, 
 // Two ticks for each cycle, and two cycles more for a branch that is taken.
 fn ticks_of(entry: Entry, taken: bool) -> u8
     requires sound { Sound entry }
-    requires branches { taken ≡ true → is_branch entry.0 ≡ true }
+    requires branches { taken ≡ true → is_branch entry.operation ≡ true }
     ensures value { result ≡ ticks_of entry taken }
     ensures few { result ≤ 16 }
 {
-    if taken { 2 * entry.2 + 4 } else { 2 * entry.2 }
+    if taken { 2 * entry.cycles + 4 } else { 2 * entry.cycles }
 }
 
 // The next instruction, whole; the answer is the ticks that it takes.
@@ -107,6 +107,6 @@ pub fn instruct(parts: &mut Parts, image: &[u8], host: u16) -> Result<u8, Fault>
     };
     let code = parts.fetch(view)?;
     let entry = entry_of(code);
-    let taken = execute(parts, view, entry.0)?;
+    let taken = execute(parts, view, entry.operation)?;
     Ok(ticks_of(entry, taken))
 }

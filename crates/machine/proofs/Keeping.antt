@@ -200,7 +200,7 @@ executes m view op.Stop h = goes h
 executes m view op.Nop h = goes h
 
 instructs : (m : Parts) (image : List ℕ) (host : ℕ) → Kept m → All Keeps (instructed m image host)
-instructs m image host h = let view : Seen = record { image = image; host = host; pc = m.registers.pc } in then_all _ (fetches m view h) (λ s k. then_all _ (executes s.0 view (entry_at s.1).0 k) (λ t l. goes l))
+instructs m image host h = let view : Seen = record { image = image; host = host; pc = m.registers.pc } in then_all _ (fetches m view h) (λ s k. then_all _ (executes s.0 view (entry_at s.1).operation k) (λ t l. goes l))
 
 -- the third step and a move
 pub buzzer_ticks : (mode : Mode) (p : ℕ) (b : Buzzer) → b.count < 64 → (buzzer_ticked mode p b).count < 64

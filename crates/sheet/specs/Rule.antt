@@ -29,7 +29,7 @@ mask_of B7 = 128
 
 -- an operation with its bytes and cycles
 abbrev entry : Operation → ℕ → ℕ → Entry
-entry o b c = (o, b, c)
+entry o b c = record { operation = o; bytes = b; cycles = c }
 
 abbrev unlisted : Entry
 unlisted = entry Operation.Unlisted 1 0
@@ -51,11 +51,9 @@ flag_ops h =
 abbrev bit_at : ℕ → Bit
 bit_at h = slice_index_or (B0 ∷ B1 ∷ B2 ∷ B3 ∷ B4 ∷ B5 ∷ B6 ∷ B7 ∷ []) h B0
 
-abbrev set_bit : ℕ → Entry
-set_bit h = entry (Operation.Set1 (bit_at h)) 2 4
-
-abbrev clear_bit : ℕ → Entry
-clear_bit h = entry (Operation.Clr1 (bit_at h)) 2 4
+-- SET1 and CLR1
+abbrev bit_op : (Bit → Operation) → ℕ → Entry
+bit_op f h = entry (f (bit_at h)) 2 4
 
 -- BBS on true, BBC on false
 abbrev branch_a : Bool → ℕ → Entry
@@ -80,11 +78,9 @@ shift t b c h =
     let at : ShiftOp → Entry = λ o. entry (Operation.Shift o t) b c in
     slice_index_or (at ShiftOp.Asl ∷ at ShiftOp.Rol ∷ at ShiftOp.Lsr ∷ at ShiftOp.Ror ∷ at ShiftOp.Inc ∷ at ShiftOp.Dec ∷ []) h unlisted
 
-abbrev even_call : ℕ → Entry
-even_call h = entry (Operation.Tcall (2 * h)) 1 8
-
-abbrev odd_call : ℕ → Entry
-odd_call h = entry (Operation.Tcall (2 * h + 1)) 1 8
+-- two rows of eight: TCALL 0, 2 .. 14, and TCALL 1, 3 .. 15
+abbrev table_call : ℕ → ℕ → Entry
+table_call odd h = entry (Operation.Tcall (2 * h + odd)) 1 8
 
 abbrev stack : (Saved → Operation) → ℕ → Entry
 stack f h =
@@ -101,13 +97,13 @@ flag_branch h =
 -- rows 00 to 1F, four to a line
 abbrev rows : List (ℕ → Entry)
 rows =
-    flag_ops ∷ set_bit ∷ branch_a true ∷ branch_dp true
+    flag_ops ∷ bit_op (λ b. Operation.Set1 b) ∷ branch_a true ∷ branch_dp true
     ∷ alu Operand.Imm 2 2 ∷ alu_at Place.Dp 2 3 ∷ alu_at Place.DpX 2 4 ∷ alu_at Place.Abs 3 4
-    ∷ shift Target.A 1 2 ∷ shift (Target.At Place.Dp) 2 4 ∷ even_call ∷ none
+    ∷ shift Target.A 1 2 ∷ shift (Target.At Place.Dp) 2 4 ∷ table_call 0 ∷ none
     ∷ none ∷ stack (λ s. Operation.Pop s) ∷ stack (λ s. Operation.Push s) ∷ none
-    ∷ flag_branch ∷ clear_bit ∷ branch_a false ∷ branch_dp false
+    ∷ flag_branch ∷ bit_op (λ b. Operation.Clr1 b) ∷ branch_a false ∷ branch_dp false
     ∷ alu_at Place.AtX 1 3 ∷ alu_at Place.AbsY 3 5 ∷ alu_at Place.IndX 2 6 ∷ alu_at Place.IndY 2 6
-    ∷ shift (Target.At Place.Abs) 3 5 ∷ shift (Target.At Place.DpX) 2 5 ∷ odd_call ∷ none
+    ∷ shift (Target.At Place.Abs) 3 5 ∷ shift (Target.At Place.DpX) 2 5 ∷ table_call 1 ∷ none
     ∷ none ∷ none ∷ none ∷ none ∷ []
 
 abbrev transfer : Transfer → Entry
@@ -126,17 +122,11 @@ by_dp f = entry (f (Operand.At Place.Dp)) 2 3
 abbrev by_abs : (Operand → Operation) → Entry
 by_abs f = entry (f (Operand.At Place.Abs)) 3 4
 
-abbrev ldx : Operand → Operation
-ldx m = Operation.Load Index.X m
+abbrev load : Index → Operand → Operation
+load i m = Operation.Load i m
 
-abbrev ldy : Operand → Operation
-ldy m = Operation.Load Index.Y m
-
-abbrev cmpx : Operand → Operation
-cmpx m = Operation.Compare Index.X m
-
-abbrev cmpy : Operand → Operation
-cmpy m = Operation.Compare Index.Y m
+abbrev compare : Index → Operand → Operation
+compare i m = Operation.Compare i m
 
 -- the codes that stand alone
 abbrev singles : List (ℕ × Entry)
@@ -150,10 +140,10 @@ singles =
     ∷ (0x8E, transfer Transfer.Txsp) ∷ (0xAE, transfer Transfer.Tspx)
     ∷ (0x8F, index_step ShiftOp.Inc Index.X) ∷ (0xAF, index_step ShiftOp.Dec Index.X)
     ∷ (0x9E, index_step ShiftOp.Inc Index.Y) ∷ (0xBE, index_step ShiftOp.Dec Index.Y)
-    ∷ (0x1E, by_number ldx) ∷ (0xCC, by_dp ldx) ∷ (0xDC, by_abs ldx)
-    ∷ (0x3E, by_number ldy) ∷ (0xC9, by_dp ldy) ∷ (0xD8, by_abs ldy) ∷ (0xD9, entry (ldy (Operand.At Place.DpX)) 2 4)
-    ∷ (0x5E, by_number cmpx) ∷ (0x6C, by_dp cmpx) ∷ (0x7C, by_abs cmpx)
-    ∷ (0x7E, by_number cmpy) ∷ (0x8C, by_dp cmpy) ∷ (0x9C, by_abs cmpy)
+    ∷ (0x1E, by_number (load Index.X)) ∷ (0xCC, by_dp (load Index.X)) ∷ (0xDC, by_abs (load Index.X))
+    ∷ (0x3E, by_number (load Index.Y)) ∷ (0xC9, by_dp (load Index.Y)) ∷ (0xD8, by_abs (load Index.Y)) ∷ (0xD9, entry (load Index.Y (Operand.At Place.DpX)) 2 4)
+    ∷ (0x5E, by_number (compare Index.X)) ∷ (0x6C, by_dp (compare Index.X)) ∷ (0x7C, by_abs (compare Index.X))
+    ∷ (0x7E, by_number (compare Index.Y)) ∷ (0x8C, by_dp (compare Index.Y)) ∷ (0x9C, by_abs (compare Index.Y))
     ∷ (0xEC, entry (Operation.Store Index.X Place.Dp) 2 4) ∷ (0xFC, entry (Operation.Store Index.X Place.Abs) 3 5)
     ∷ (0xE9, entry (Operation.Store Index.Y Place.Dp) 2 4) ∷ (0xF8, entry (Operation.Store Index.Y Place.Abs) 3 5)
     ∷ (0xF9, entry (Operation.Store Index.Y Place.DpX) 2 5) ∷ []

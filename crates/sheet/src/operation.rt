@@ -2,7 +2,7 @@ ghost use Rattle.std.specs.Prelude.{◌≡◌};
 ghost use Rattle.sheet.specs.Rule.{mask_of};
 
 // Where a byte is: dp, dp+X, !abs, {X}, !abs+Y, [dp+X] and [dp]+Y.
-#[derive(Clone, Copy)]
+#[derive(Clone, Copy, PartialEq, Eq, Debug)]
 pub enum Place {
     Dp,
     DpX,
@@ -14,27 +14,27 @@ pub enum Place {
 }
 
 // A byte that is read: the one after the code, or one at a place.
-#[derive(Clone, Copy)]
+#[derive(Clone, Copy, PartialEq, Eq, Debug)]
 pub enum Operand {
     Imm,
     At(Place),
 }
 
-#[derive(Clone, Copy)]
+#[derive(Clone, Copy, PartialEq, Eq, Debug)]
 pub enum Index {
     X,
     Y,
 }
 
 // A byte that is shifted or counted.
-#[derive(Clone, Copy)]
+#[derive(Clone, Copy, PartialEq, Eq, Debug)]
 pub enum Target {
     A,
     Index(Index),
     At(Place),
 }
 
-#[derive(Clone, Copy)]
+#[derive(Clone, Copy, PartialEq, Eq, Debug)]
 pub enum AluOp {
     Adc,
     Sbc,
@@ -45,7 +45,7 @@ pub enum AluOp {
     Lda,
 }
 
-#[derive(Clone, Copy)]
+#[derive(Clone, Copy, PartialEq, Eq, Debug)]
 pub enum ShiftOp {
     Asl,
     Rol,
@@ -55,7 +55,7 @@ pub enum ShiftOp {
     Dec,
 }
 
-#[derive(Clone, Copy)]
+#[derive(Clone, Copy, PartialEq, Eq, Debug)]
 pub enum FlagOp {
     ClrC,
     SetC,
@@ -65,7 +65,7 @@ pub enum FlagOp {
 }
 
 // Register to register: X to A, A to X, Y to A, A to Y, X to SP, SP to X.
-#[derive(Clone, Copy)]
+#[derive(Clone, Copy, PartialEq, Eq, Debug)]
 pub enum Transfer {
     Txa,
     Tax,
@@ -76,7 +76,7 @@ pub enum Transfer {
 }
 
 // What PUSH and POP take.
-#[derive(Clone, Copy)]
+#[derive(Clone, Copy, PartialEq, Eq, Debug)]
 pub enum Saved {
     A,
     X,
@@ -85,7 +85,7 @@ pub enum Saved {
 }
 
 // A bit of a byte, by its number.
-#[derive(Clone, Copy)]
+#[derive(Clone, Copy, PartialEq, Eq, Debug)]
 pub enum Bit {
     B0,
     B1,
@@ -102,21 +102,12 @@ impl Bit {
     pub fn mask(self) -> u8
         ensures { result ≡ mask_of self }
     {
-        match self {
-            Bit::B0 => 0x01,
-            Bit::B1 => 0x02,
-            Bit::B2 => 0x04,
-            Bit::B3 => 0x08,
-            Bit::B4 => 0x10,
-            Bit::B5 => 0x20,
-            Bit::B6 => 0x40,
-            Bit::B7 => 0x80,
-        }
+        1 << (self as u8)
     }
 }
 
 // The flags that a branch can test.
-#[derive(Clone, Copy)]
+#[derive(Clone, Copy, PartialEq, Eq, Debug)]
 pub enum Flag {
     N,
     V,
@@ -125,7 +116,7 @@ pub enum Flag {
 }
 
 // A branch on a condition, which costs two cycles more where it is taken. The `bool` is what the bit or the flag has to be.
-#[derive(Clone, Copy)]
+#[derive(Clone, Copy, PartialEq, Eq, Debug)]
 pub enum Branch {
     BitOfA(Bit, bool),
     BitOfDp(Bit, bool),
@@ -136,7 +127,7 @@ pub enum Branch {
 
 // What a code does. LdaNext and StaNext are LDA {X}+ and STA {X}+, which add 1 to X; Ldm stores a number at dp.
 // Unlisted is a code that is not on the sheet.
-#[derive(Clone, Copy)]
+#[derive(Clone, Copy, PartialEq, Eq, Debug)]
 pub enum Operation {
     Unlisted,
     Flag(FlagOp),
