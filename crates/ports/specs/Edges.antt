@@ -14,13 +14,17 @@ rises before at = not before && at
 abbrev pub selected : ℕ → Bool → Bool → Bool
 selected pair before at = (bit_of 1 pair && falls before at) || (bit_of 2 pair && rises before at)
 
+-- a pin of RB, if its bit of RBFUNC is set
+abbrev pub pin_edge : ℕ → ℕ → Ports → ℕ → ℕ → ℕ → Bool
+pin_edge function pin s pair before at = bit_of function s.rbfunc && selected pair (bit_of pin before) (bit_of pin at)
+
 -- INT0 is RB2, if INT0I is set
 abbrev pub int0_edge : Ports → ℕ → ℕ → ℕ → Bool
-int0_edge s ieds before at = bit_of 4 s.rbfunc && selected ieds (bit_of 0x0400 before) (bit_of 0x0400 at)
+int0_edge s ieds before at = pin_edge 4 0x0400 s ieds before at
 
 -- INT1 is RB3, if INT1I is set
 abbrev pub int1_edge : Ports → ℕ → ℕ → ℕ → Bool
-int1_edge s ieds before at = bit_of 8 s.rbfunc && selected (ieds / 4) (bit_of 0x0800 before) (bit_of 0x0800 at)
+int1_edge s ieds before at = pin_edge 8 0x0800 s (ieds / 4) before at
 
 -- EC0 is RA0, while its direction is 0
 abbrev pub ec0_rises : Ports → ℕ → ℕ → Bool

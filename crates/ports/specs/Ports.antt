@@ -50,4 +50,4 @@ sampled s host buzzer comp = record { levels = merged (drive s) (driver s buzzer
 
 -- a reset keeps the latches
 abbrev pub ports_reset : Ports → Ports
-ports_reset s = record { ra = s.ra; rb = s.rb; rc = s.rc; raio = 0; rbio = 0; rcio = 0; rafunc = 0; rbfunc = 0; pupsel = 0 }
+ports_reset s = record s { raio = 0; rbio = 0; rcio = 0; rafunc = 0; rbfunc = 0; pupsel = 0 }

@@ -1,5 +1,5 @@
 -- Interrupt requests and enables.
-use Rattle.std.specs.Prelude.{ℕ, Bool, cond, not, Some, None, Option, ◌==◌, bit_and, bit_or}
+use Rattle.std.specs.Prelude.{ℕ, ◌-◌, ◌^◌, Bool, true, false, cond, not, Option, List, [], ◌∷◌, find, ◌==◌, bit_and, bit_or}
 use Rattle.ports.specs.declared.request.Interrupt.{Interrupt}
 use Rattle.ports.specs.declared.request.Interrupt.TheVariants.{Int0, Int1, Timer0, Timer1, Converter, Watchdog, Basic}
 use Rattle.ports.specs.declared.request.Requests.{Requests}
@@ -12,23 +12,36 @@ requests ienh ienl irqh irql ieds = record { ienh = ienh; ienl = ienl; irqh = ir
 abbrev pub requests_reset : Requests
 requests_reset = requests 0 0 0 0 0
 
-abbrev pub or_else : Bool → Interrupt → Option Interrupt → Option Interrupt
-or_else b i rest = cond b (Some i) rest
+-- INT0, INT1, T0 and T1 have their bits in IENH and IRQH, the others in IENL and IRQL
+abbrev pub in_high : Interrupt → Bool
+in_high Int0 = true
+in_high Int1 = true
+in_high Timer0 = true
+in_high Timer1 = true
+in_high Converter = false
+in_high Watchdog = false
+in_high Basic = false
 
--- the first enabled request of IENH and IRQH: INT0, INT1, T0, T1 from bit 7 down
-abbrev pub first_high : ℕ → Option Interrupt
-first_high bits = or_else (bit_of 128 bits) Int0 (or_else (bit_of 64 bits) Int1 (or_else (bit_of 32 bits) Timer0 (or_else (bit_of 16 bits) Timer1 None)))
+-- the numbers of these bits
+abbrev pub bit_number : Interrupt → ℕ
+bit_number Int0 = 7
+bit_number Int1 = 6
+bit_number Timer0 = 5
+bit_number Timer1 = 4
+bit_number Converter = 7
+bit_number Watchdog = 6
+bit_number Basic = 5
 
--- and of IENL and IRQL: A/D, WDT, BIT
-abbrev pub first_low : ℕ → Option Interrupt
-first_low bits = or_else (bit_of 128 bits) Converter (or_else (bit_of 64 bits) Watchdog (or_else (bit_of 32 bits) Basic None))
+abbrev pub mask_of : Interrupt → ℕ
+mask_of i = 2 ^ bit_number i
 
-abbrev pub ahead : Option Interrupt → Option Interrupt → Option Interrupt
-ahead (Some i) q = Some i
-ahead None q = q
+-- whether it is requested and enabled
+abbrev pub asks : Requests → Interrupt → Bool
+asks r i = bit_of (mask_of i) (cond (in_high i) (bit_and r.ienh r.irqh) (bit_and r.ienl r.irql))
 
+-- the first enabled request
 abbrev pub pending : Requests → Option Interrupt
-pending r = ahead (first_high (bit_and r.ienh r.irqh)) (first_low (bit_and r.ienl r.irql))
+pending r = find (λ i. asks r i) (Int0 ∷ Int1 ∷ Timer0 ∷ Timer1 ∷ Converter ∷ Watchdog ∷ Basic ∷ [])
 
 -- an enabled request of INT0, INT1 or Timer 0 wakes the chip
 abbrev pub wakes : Requests → Bool
@@ -46,17 +59,17 @@ vector_of Basic = 0xFFE6
 
 -- an accepted request is cleared
 abbrev pub accepted : Interrupt → Requests → Requests
-accepted Int0 r = requests r.ienh r.ienl (bit_and r.irqh 0x7F) r.irql r.ieds
-accepted Int1 r = requests r.ienh r.ienl (bit_and r.irqh 0xBF) r.irql r.ieds
-accepted Timer0 r = requests r.ienh r.ienl (bit_and r.irqh 0xDF) r.irql r.ieds
-accepted Timer1 r = requests r.ienh r.ienl (bit_and r.irqh 0xEF) r.irql r.ieds
-accepted Converter r = requests r.ienh r.ienl r.irqh (bit_and r.irql 0x7F) r.ieds
-accepted Watchdog r = requests r.ienh r.ienl r.irqh (bit_and r.irql 0xBF) r.ieds
-accepted Basic r = requests r.ienh r.ienl r.irqh (bit_and r.irql 0xDF) r.ieds
+accepted i r =
+    cond (in_high i) (record r { irqh = bit_and r.irqh (255 - mask_of i) }) (record r { irql = bit_and r.irql (255 - mask_of i) })
+
+-- the bit of a request that an event sets
+abbrev pub mask_if : Bool → Interrupt → ℕ
+mask_if on i = cond on (mask_of i) 0
 
 -- the requests that a tick's events set
 abbrev pub noted : Events → Requests → Requests
 noted e r =
-    requests r.ienh r.ienl
-    (bit_or r.irqh (bit_or (bit_or (cond e.int0 128 0) (cond e.int1 64 0)) (bit_or (cond e.timer0 32 0) (cond e.timer1 16 0))))
-    (bit_or r.irql (bit_or (cond e.watchdog 64 0) (cond e.basic 32 0))) r.ieds
+    record r {
+      irqh = bit_or r.irqh (bit_or (bit_or (bit_or (mask_if e.int0 Int0) (mask_if e.int1 Int1)) (mask_if e.timer0 Timer0)) (mask_if e.timer1 Timer1));
+      irql = bit_or r.irql (bit_or (mask_if e.watchdog Watchdog) (mask_if e.basic Basic));
+    }

@@ -1,17 +1,23 @@
 ghost use Rattle.std.specs.Prelude.{◌≡◌};
-ghost use Rattle.ports.specs.Ports.{bit_of, word_of, latches, directions, merged, ports_read, buzo, pwmo, rb1_and4, drive, driver, sampled, ports_reset};
+ghost use Rattle.ports.specs.Ports.{word_of, latches, directions, merged, ports_read, rb1_and4, sampled, ports_reset};
 
+use crate::bits::has_bit;
 use recorder::pin_sample::PinSample;
 
-// The pins that the buzzer and COMP can be given.
-const RB1: u16 = 0x0200;
+// Where the pins of RB and RC begin in a pin word.
+const RB0: u32 = 8;
 
-const RB4: u16 = 0x1000;
+const RC0: u32 = 13;
+
+// The pins that the buzzer and COMP can be given, by their bits in a pin word.
+const RB1: u32 = 9;
+
+const RB4: u32 = 12;
 
 // The bits of RBFUNC that give them.
-const BUZO: u8 = 0x02;
+const BUZO: u32 = 1;
 
-const PWMO: u8 = 0x10;
+const PWMO: u32 = 4;
 
 // Latches, directions (1 is out) and function registers.
 #[derive(Clone, Copy, PartialEq, Eq, Default, Debug)]
@@ -31,7 +37,7 @@ pub struct Ports {
 fn word(ra: u8, rb: u8, rc: u8) -> u16
     ensures { result ≡ word_of ra rb rc }
 {
-    ra as u16 + 256 * (rb % 32) as u16 + 8192 * (rc % 4) as u16
+    u16::from(ra) | u16::from(rb % 32) << RB0 | u16::from(rc % 4) << RC0
 }
 
 // The bits of `out` where those of `which` are 1, and the host's elsewhere.
@@ -45,9 +51,7 @@ fn merge(which: u16, out: u16, host: u16) -> u16
 fn rb1_and_4(one: bool, four: bool) -> u16
     ensures { result ≡ rb1_and4 one four }
 {
-    let low = if one { RB1 } else { 0 };
-    let high = if four { RB4 } else { 0 };
-    low + high
+    u16::from(one) << RB1 | u16::from(four) << RB4
 }
 
 impl Ports {
@@ -62,7 +66,10 @@ impl Ports {
     pub fn sample(&self, host: u16, buzzer: bool, comp: bool) -> PinSample
         ensures { result ≡ sampled self.now host buzzer comp }
     {
-        let given = rb1_and_4(self.is_buzo(), self.is_pwmo());
+        let given = rb1_and_4(
+            has_bit(self.rbfunc.into(), BUZO),
+            has_bit(self.rbfunc.into(), PWMO),
+        );
         let drive = self.directions() | given;
         let driver = merge(given, rb1_and_4(buzzer, comp), self.latches());
         PinSample {
@@ -75,12 +82,12 @@ impl Ports {
     pub fn reset(&mut self)
         ensures { self.new ≡ ports_reset self.old }
     {
-        self.raio = 0;
-        self.rbio = 0;
-        self.rcio = 0;
-        self.rafunc = 0;
-        self.rbfunc = 0;
-        self.pupsel = 0;
+        *self = Ports {
+            ra: self.ra,
+            rb: self.rb,
+            rc: self.rc,
+            ..Ports::default()
+        };
     }
 
     fn latches(&self) -> u16
@@ -93,19 +100,5 @@ impl Ports {
         ensures { result ≡ directions self.now }
     {
         word(self.raio, self.rbio, self.rcio)
-    }
-
-    // BUZO gives RB1 to the buzzer.
-    fn is_buzo(&self) -> bool
-        ensures { result ≡ buzo self.now }
-    {
-        self.rbfunc / BUZO % 2 == 1
-    }
-
-    // PWMO gives RB4 to COMP.
-    fn is_pwmo(&self) -> bool
-        ensures { result ≡ pwmo self.now }
-    {
-        self.rbfunc / PWMO % 2 == 1
     }
 }

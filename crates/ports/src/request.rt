@@ -1,7 +1,9 @@
-ghost use Rattle.std.specs.Prelude.{◌≡◌, if◌then◌else◌};
-ghost use Rattle.ports.specs.Requests.{requests_reset, first_high, first_low, pending, wakes, vector_of, accepted, noted};
+ghost use Rattle.std.specs.Prelude.{◌≡◌, ◌<◌, if◌then◌else◌};
+ghost use Rattle.ports.specs.Requests.{requests_reset, asks, in_high, bit_number, mask_of, pending, wakes, vector_of, accepted, noted};
 
-// What asks for the chip's attention, first to last.
+use crate::bits::has_bit;
+
+// What asks for the chip's attention.
 #[derive(Clone, Copy, PartialEq, Eq, Debug)]
 pub enum Interrupt {
     Int0,
@@ -25,7 +27,7 @@ pub struct Events {
 }
 
 // IENH, IENL, IRQH, IRQL and IEDS.
-#[derive(Clone, Copy, PartialEq, Eq, Debug)]
+#[derive(Clone, Copy, PartialEq, Eq, Default, Debug)]
 pub struct Requests {
     pub ienh: u8,
     pub ienl: u8,
@@ -34,64 +36,58 @@ pub struct Requests {
     pub ieds: u8,
 }
 
-// The bits of IENH and IRQH.
-const INT0: u8 = 0x80;
-
-const INT1: u8 = 0x40;
-
-const T0: u8 = 0x20;
-
-const T1: u8 = 0x10;
-
-// The bits of IENL and IRQL.
-const AD: u8 = 0x80;
-
-const WDT: u8 = 0x40;
-
-const BIT: u8 = 0x20;
-
 // The enabled requests that wake the chip.
 const WAKING: u8 = 0xe0;
 
-// The first of INT0, INT1, T0 and T1 in the bits of IENH and IRQH.
-fn first_high(bits: u8) -> Option<Interrupt>
-    ensures { result ≡ first_high bits }
-{
-    if bits / INT0 % 2 == 1 {
-        Some(Interrupt::Int0)
-    } else if bits / INT1 % 2 == 1 {
-        Some(Interrupt::Int1)
-    } else if bits / T0 % 2 == 1 {
-        Some(Interrupt::Timer0)
-    } else if bits / T1 % 2 == 1 {
-        Some(Interrupt::Timer1)
-    } else {
-        None
-    }
-}
-
-// The first of A/D, WDT and BIT in the bits of IENL and IRQL.
-fn first_low(bits: u8) -> Option<Interrupt>
-    ensures { result ≡ first_low bits }
-{
-    if bits / AD % 2 == 1 {
-        Some(Interrupt::Converter)
-    } else if bits / WDT % 2 == 1 {
-        Some(Interrupt::Watchdog)
-    } else if bits / BIT % 2 == 1 {
-        Some(Interrupt::Basic)
-    } else {
-        None
-    }
-}
-
-fn bit_if(on: bool, bit: u8) -> u8
-    ensures { result ≡ (if on then bit else 0) }
-{
-    if on { bit } else { 0 }
-}
+// First to last.
+const ORDER: [Interrupt; 7] = [
+    Interrupt::Int0,
+    Interrupt::Int1,
+    Interrupt::Timer0,
+    Interrupt::Timer1,
+    Interrupt::Converter,
+    Interrupt::Watchdog,
+    Interrupt::Basic,
+];
 
 impl Interrupt {
+    // Whether its bits are in IENH and IRQH, and not in IENL and IRQL.
+    fn is_high(self) -> bool
+        ensures { result ≡ in_high self }
+    {
+        match self {
+            Interrupt::Int0 | Interrupt::Int1 | Interrupt::Timer0 | Interrupt::Timer1 => true,
+            Interrupt::Converter | Interrupt::Watchdog | Interrupt::Basic => false,
+        }
+    }
+
+    // The number of its bit in these.
+    fn bit(self) -> u32
+        ensures value { result ≡ bit_number self }
+        ensures small { result < 8 }
+    {
+        match self {
+            Interrupt::Int0 | Interrupt::Converter => 7,
+            Interrupt::Int1 | Interrupt::Watchdog => 6,
+            Interrupt::Timer0 | Interrupt::Basic => 5,
+            Interrupt::Timer1 => 4,
+        }
+    }
+
+    // The byte that has this bit alone.
+    fn mask(self) -> u8
+        ensures { result ≡ mask_of self }
+    {
+        1 << self.bit()
+    }
+
+    // Its bit where it asks, else 0.
+    fn mask_if(self, asks: bool) -> u8
+        ensures { result ≡ (if asks then mask_of self else 0) }
+    {
+        if asks { self.mask() } else { 0 }
+    }
+
     // The address of the word that the program counter is taken from.
     pub fn vector(self) -> u16
         ensures { result ≡ vector_of self }
@@ -113,23 +109,26 @@ impl Requests {
     pub fn new() -> Requests
         ensures { result ≡ requests_reset }
     {
-        Requests {
-            ienh: 0,
-            ienl: 0,
-            irqh: 0,
-            irql: 0,
-            ieds: 0,
-        }
+        Requests::default()
     }
 
     // The first enabled request.
     pub fn first_pending(&self) -> Option<Interrupt>
         ensures { result ≡ pending self.now }
     {
-        match first_high(self.ienh & self.irqh) {
-            Some(i) => Some(i),
-            None => first_low(self.ienl & self.irql),
-        }
+        ORDER.iter().copied().find(|i| self.is_pending(*i))
+    }
+
+    // Whether it is requested and enabled.
+    fn is_pending(&self, interrupt: Interrupt) -> bool
+        ensures { result ≡ asks self.now interrupt }
+    {
+        let bits = if interrupt.is_high() {
+            self.ienh & self.irqh
+        } else {
+            self.ienl & self.irql
+        };
+        has_bit(bits.into(), interrupt.bit())
     }
 
     // Whether an enabled request of INT0, INT1 or Timer 0 wakes the chip.
@@ -143,14 +142,10 @@ impl Requests {
     pub fn accept(&mut self, interrupt: Interrupt)
         ensures { self.new ≡ accepted interrupt self.old }
     {
-        match interrupt {
-            Interrupt::Int0 => self.irqh &= !INT0,
-            Interrupt::Int1 => self.irqh &= !INT1,
-            Interrupt::Timer0 => self.irqh &= !T0,
-            Interrupt::Timer1 => self.irqh &= !T1,
-            Interrupt::Converter => self.irql &= !AD,
-            Interrupt::Watchdog => self.irql &= !WDT,
-            Interrupt::Basic => self.irql &= !BIT,
+        if interrupt.is_high() {
+            self.irqh &= !interrupt.mask();
+        } else {
+            self.irql &= !interrupt.mask();
         }
     }
 
@@ -158,8 +153,11 @@ impl Requests {
     pub fn note(&mut self, events: Events)
         ensures { self.new ≡ noted events self.old }
     {
-        self.irqh |= (bit_if(events.int0, INT0) | bit_if(events.int1, INT1))
-            | (bit_if(events.timer0, T0) | bit_if(events.timer1, T1));
-        self.irql |= bit_if(events.watchdog, WDT) | bit_if(events.basic, BIT);
+        self.irqh |= Interrupt::Int0.mask_if(events.int0)
+            | Interrupt::Int1.mask_if(events.int1)
+            | Interrupt::Timer0.mask_if(events.timer0)
+            | Interrupt::Timer1.mask_if(events.timer1);
+        self.irql |= Interrupt::Watchdog.mask_if(events.watchdog)
+            | Interrupt::Basic.mask_if(events.basic);
     }
 }
