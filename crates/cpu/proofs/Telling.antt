@@ -5,13 +5,9 @@ use Rattle.cpu.specs.State.{bit, with_sp}
 use Rattle.cpu.specs.Effects.{added}
 use Rattle.cpu.specs.Laws.{Laws, lifted, fits_signed}
 
--- a number below 512 by its byte and what is carried out
-carried : (w : ℕ) → w < 512 → w % 256 + 256 * bit (leb 256 w) ≡ w
-carried w h = grind (arith, nat_tests)
-
 whole_at : (p q : ℕ) (carry : Bool) → p < 256 → q < 256 → (added p q carry).value + 256 * bit (added p q carry).c ≡ p + q + bit carry
-whole_at p q true hp hq = carried (p + q + 1) (omega arith)
-whole_at p q false hp hq = carried (p + q + 0) (omega arith)
+whole_at p q true hp hq = grind (arith, nat_tests)
+whole_at p q false hp hq = grind (arith, nat_tests)
 
 overflow_at : (p q : ℕ) (carry : Bool) → p < 256 → q < 256 → (added p q carry).v ≡ not (fits_signed (lifted p + lifted q + bit carry))
 overflow_at p q true hp hq = grind (arith, nat_tests)

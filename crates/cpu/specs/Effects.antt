@@ -32,21 +32,18 @@ added p q carry =
 -- N and Z tell of a byte
 abbrev pub noted : Registers → ℕ → Registers
 noted s r =
-    let f = s.flags in
-    with_flags s (record { n = high r; v = f.v; g = f.g; b = f.b; h = f.h; i = f.i; z = (r == 0); c = f.c })
+    with_flags s (record s.flags { n = high r; z = (r == 0) })
 
 abbrev pub adc : Registers → ℕ → Registers
 adc s m =
-    let f = s.flags in
-    let t = added s.a m f.c in
-    with_a (with_flags s (record { n = t.n; v = t.v; g = f.g; b = f.b; h = t.h; i = f.i; z = t.z; c = t.c })) t.value
+    let t = added s.a m s.flags.c in
+    with_a (with_flags s (record s.flags { n = t.n; v = t.v; h = t.h; z = t.z; c = t.c })) t.value
 
 -- a register q with an operand m, as the sum of q, FF - m and 1
 abbrev pub compared : Registers → ℕ → ℕ → Registers
 compared s q m =
-    let f = s.flags in
     let t = added q (255 - m) true in
-    with_flags s (record { n = t.n; v = f.v; g = f.g; b = f.b; h = f.h; i = f.i; z = t.z; c = t.c })
+    with_flags s (record s.flags { n = t.n; z = t.z; c = t.c })
 
 abbrev pub loaded_a : Registers → ℕ → Registers
 loaded_a s k = noted (with_a s k) k

@@ -13,36 +13,36 @@ use Rattle.cpu.specs.declared.registers.Registers.{Registers}
 
 -- the registers with one of them changed
 abbrev pub with_a : Registers → ℕ → Registers
-with_a s k = record { a = k; x = s.x; y = s.y; sp = s.sp; pc = s.pc; flags = s.flags }
+with_a s k = record s { a = k }
 
 abbrev pub with_x : Registers → ℕ → Registers
-with_x s k = record { a = s.a; x = k; y = s.y; sp = s.sp; pc = s.pc; flags = s.flags }
+with_x s k = record s { x = k }
 
 abbrev pub with_y : Registers → ℕ → Registers
-with_y s k = record { a = s.a; x = s.x; y = k; sp = s.sp; pc = s.pc; flags = s.flags }
+with_y s k = record s { y = k }
 
 abbrev pub with_sp : Registers → ℕ → Registers
-with_sp s k = record { a = s.a; x = s.x; y = s.y; sp = k; pc = s.pc; flags = s.flags }
+with_sp s k = record s { sp = k }
 
 abbrev pub with_pc : Registers → ℕ → Registers
-with_pc s k = record { a = s.a; x = s.x; y = s.y; sp = s.sp; pc = k; flags = s.flags }
+with_pc s k = record s { pc = k }
 
 abbrev pub with_flags : Registers → Flags → Registers
-with_flags s f = record { a = s.a; x = s.x; y = s.y; sp = s.sp; pc = s.pc; flags = f }
+with_flags s f = record s { flags = f }
 
 -- the flags with one of them changed
 abbrev pub with_c : Flags → Bool → Flags
-with_c f on = record { n = f.n; v = f.v; g = f.g; b = f.b; h = f.h; i = f.i; z = f.z; c = on }
+with_c f on = record f { c = on }
 
 abbrev pub with_i : Flags → Bool → Flags
-with_i f on = record { n = f.n; v = f.v; g = f.g; b = f.b; h = f.h; i = on; z = f.z; c = f.c }
+with_i f on = record f { i = on }
 
 abbrev pub with_b : Flags → Bool → Flags
-with_b f on = record { n = f.n; v = f.v; g = f.g; b = on; h = f.h; i = f.i; z = f.z; c = f.c }
+with_b f on = record f { b = on }
 
 -- V and H clear
 abbrev pub without_vh : Flags → Flags
-without_vh f = record { n = f.n; v = false; g = f.g; b = f.b; h = false; i = f.i; z = f.z; c = f.c }
+without_vh f = record f { v = false; h = false }
 
 -- a flag as a number
 abbrev pub bit : Bool → ℕ

@@ -2,7 +2,7 @@ ghost use Rattle.std.specs.Prelude.{◌≡◌};
 ghost use Rattle.cpu.specs.State.{advanced, jumped, pushed, pulled, direct_of};
 
 use crate::registers::Registers;
-use crate::sum::{BYTE, SIGN};
+use crate::sum::BYTE;
 
 impl Registers {
     // The address in PC, which then moves on by 1.
@@ -18,12 +18,7 @@ impl Registers {
     pub fn jump_by(&mut self, rel: u8)
         ensures { self.new ≡ jumped self.old rel }
     {
-        let wide = rel as u16;
-        if rel < SIGN {
-            self.pc = self.pc.wrapping_add(wide);
-        } else {
-            self.pc = self.pc.wrapping_sub(BYTE - wide);
-        }
+        self.pc = self.pc.wrapping_add_signed(i16::from(rel.cast_signed()));
     }
 
     // The address that a push stores at; SP is lowered then.

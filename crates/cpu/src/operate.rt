@@ -1,9 +1,9 @@
 ghost use Rattle.std.specs.Prelude.{◌≡◌};
 ghost use Rattle.cpu.specs.State.{index_of};
-ghost use Rattle.cpu.specs.Effects.{noted, adc, compared, loaded_a, calculated, index_loaded, transferred, leftward, rightward, shifted, shifted_a, shifted_index, raised_x, lowered_y};
+ghost use Rattle.cpu.specs.Effects.{noted, adc, compared, loaded_a, calculated, index_loaded, transferred, changed, leftward, rightward, shifted, shifted_a, shifted_index, raised_x, lowered_y};
 
-use crate::registers::Registers;
-use crate::sum::{BYTE, SIGN, add};
+use crate::registers::{Flags, Registers};
+use crate::sum::{SIGN, add};
 use sheet::operation::{AluOp, Index, ShiftOp, Transfer};
 
 impl Registers {
@@ -21,11 +21,14 @@ impl Registers {
     {
         let sum = add(self.a, operand, self.flags.c);
         self.a = sum.value;
-        self.flags.n = sum.n;
-        self.flags.v = sum.v;
-        self.flags.h = sum.h;
-        self.flags.z = sum.z;
-        self.flags.c = sum.c;
+        self.flags = Flags {
+            n: sum.n,
+            v: sum.v,
+            h: sum.h,
+            z: sum.z,
+            c: sum.c,
+            ..self.flags
+        };
     }
 
     // N, Z and C tell of register - operand.
@@ -33,9 +36,12 @@ impl Registers {
         ensures { self.new ≡ compared self.old register operand }
     {
         let sum = add(register, u8::MAX - operand, true);
-        self.flags.n = sum.n;
-        self.flags.z = sum.z;
-        self.flags.c = sum.c;
+        self.flags = Flags {
+            n: sum.n,
+            z: sum.z,
+            c: sum.c,
+            ..self.flags
+        };
     }
 
     // A becomes the byte, and N and Z tell of it.
@@ -73,10 +79,7 @@ impl Registers {
     pub fn load(&mut self, index: Index, byte: u8)
         ensures { self.new ≡ index_loaded self.old index byte }
     {
-        match index {
-            Index::X => self.x = byte,
-            Index::Y => self.y = byte,
-        }
+        *self.index_mut(index) = byte;
         self.note(byte);
     }
 
@@ -97,25 +100,28 @@ impl Registers {
         }
     }
 
+    // What a byte becomes. N and Z tell of it.
+    fn change(&mut self, byte: u8) -> u8
+        ensures { (self.new, result) ≡ changed self.old byte }
+    {
+        self.note(byte);
+        byte
+    }
+
     // The byte one bit to the left, with the carry as bit 0. C is the bit that leaves it.
     fn left(&mut self, byte: u8, carry: bool) -> u8
         ensures { (self.new, result) ≡ leftward self.old byte carry }
     {
-        let wide = 2 * byte as u16 + carry as u16;
-        let value = (wide % BYTE) as u8;
         self.flags.c = byte >= SIGN;
-        self.note(value);
-        value
+        self.change((byte << 1) + u8::from(carry))
     }
 
     // The byte one bit to the right, with the carry as bit 7. C is the bit that leaves it.
     fn right(&mut self, byte: u8, carry: bool) -> u8
         ensures { (self.new, result) ≡ rightward self.old byte carry }
     {
-        let value = byte / 2 + SIGN * carry as u8;
-        self.flags.c = byte % 2 == 1;
-        self.note(value);
-        value
+        self.flags.c = byte & 1 == 1;
+        self.change(byte >> 1 | u8::from(carry) << 7)
     }
 
     // What ASL, ROL, LSR, ROR, INC or DEC makes of a byte. All set N and Z, and the first four C.
@@ -127,16 +133,8 @@ impl Registers {
             ShiftOp::Rol => self.left(byte, self.flags.c),
             ShiftOp::Lsr => self.right(byte, false),
             ShiftOp::Ror => self.right(byte, self.flags.c),
-            ShiftOp::Inc => {
-                let value = byte.wrapping_add(1);
-                self.note(value);
-                value
-            }
-            ShiftOp::Dec => {
-                let value = byte.wrapping_sub(1);
-                self.note(value);
-                value
-            }
+            ShiftOp::Inc => self.change(byte.wrapping_add(1)),
+            ShiftOp::Dec => self.change(byte.wrapping_sub(1)),
         }
     }
 
@@ -154,10 +152,7 @@ impl Registers {
     {
         let old = self.index(index);
         let value = self.shift(op, old);
-        match index {
-            Index::X => self.x = value,
-            Index::Y => self.y = value,
-        }
+        *self.index_mut(index) = value;
     }
 
     // X + 1 after LDA {X}+ and STA {X}+. Sets no flag.

@@ -1,10 +1,12 @@
 ghost use Rattle.std.specs.Prelude.{◌≡◌};
+ghost use Rattle.std.specs.Borrow.{sem};
+ghost use Rattle.cpu.specs.Lending.{LendsIndex};
 ghost use Rattle.cpu.specs.State.{cleared, packed, unpacked, flag_of, index_of, same, byte_of, restored, switched, broken, with_flags};
 
 use sheet::operation::{Flag, FlagOp, Index, Saved};
 
 // Negative, overflow, direct page, break, half carry, interrupt enable, zero, carry.
-#[derive(Clone, Copy, PartialEq, Eq, Debug)]
+#[derive(Clone, Copy, PartialEq, Eq, Default, Debug)]
 pub struct Flags {
     pub n: bool,
     pub v: bool,
@@ -16,7 +18,7 @@ pub struct Flags {
     pub c: bool,
 }
 
-#[derive(Clone, Copy, PartialEq, Eq, Debug)]
+#[derive(Clone, Copy, PartialEq, Eq, Default, Debug)]
 pub struct Registers {
     pub a: u8,
     pub x: u8,
@@ -43,11 +45,11 @@ const PSW_Z: u8 = 0x02;
 
 const PSW_C: u8 = 0x01;
 
-impl Flags {
-    // The flags by the bits of a byte.
-    fn of(byte: u8) -> Self
-        ensures { result ≡ unpacked byte }
-    {
+// The flags by the bits of a byte.
+impl From<u8> for Flags {
+    ghost from_gives = { λ byte flags. flags ≡ unpacked byte };
+
+    fn from(byte: u8) -> Self {
         Flags {
             n: byte & PSW_N != 0,
             v: byte & PSW_V != 0,
@@ -61,34 +63,35 @@ impl Flags {
     }
 }
 
+// The flags as a byte: N V G B H I Z C, bits 7 to 0.
+impl From<Flags> for u8 {
+    ghost from_gives = { λ flags byte. byte ≡ packed flags };
+
+    fn from(flags: Flags) -> u8 {
+        PSW_N * flags.n as u8
+            + PSW_V * flags.v as u8
+            + PSW_G * flags.g as u8
+            + PSW_B * flags.b as u8
+            + PSW_H * flags.h as u8
+            + PSW_I * flags.i as u8
+            + PSW_Z * flags.z as u8
+            + PSW_C * flags.c as u8
+    }
+}
+
 impl Registers {
     // All registers 0.
     pub fn new() -> Self
         ensures { result ≡ cleared }
     {
-        Registers {
-            a: 0,
-            x: 0,
-            y: 0,
-            sp: 0,
-            pc: 0,
-            flags: Flags::of(0),
-        }
+        Registers::default()
     }
 
-    // The flags as a byte: N V G B H I Z C, bits 7 to 0.
+    // The flags as a byte.
     pub fn psw(&self) -> u8
         ensures { result ≡ packed self.now.flags }
     {
-        let f = self.flags;
-        PSW_N * f.n as u8
-            + PSW_V * f.v as u8
-            + PSW_G * f.g as u8
-            + PSW_B * f.b as u8
-            + PSW_H * f.h as u8
-            + PSW_I * f.i as u8
-            + PSW_Z * f.z as u8
-            + PSW_C * f.c as u8
+        self.flags.into()
     }
 
     // Sets each flag by its bit, so that PSW is the byte again.
@@ -96,7 +99,7 @@ impl Registers {
         ensures value { self.new ≡ with_flags self.old (unpacked byte) }
         ensures again { packed self.new.flags ≡ byte }
     {
-        self.flags = Flags::of(byte);
+        self.flags = byte.into();
     }
 
     // CLRC, SETC, DI and EI; CLRV clears H too.
@@ -148,6 +151,17 @@ impl Registers {
         match index {
             Index::X => self.x,
             Index::Y => self.y,
+        }
+    }
+
+    // The same register, lent to be written.
+    pub(crate) fn index_mut(&mut self, index: Index) -> &mut u8
+        ensures* writes_back { sem 𝓛 (LendsIndex self.entry index result) }
+        ensures value { result.now ≡ index_of self.old index }
+    {
+        match index {
+            Index::X => &mut self.x,
+            Index::Y => &mut self.y,
         }
     }
 
