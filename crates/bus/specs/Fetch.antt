@@ -12,7 +12,7 @@ use Rattle.bus.specs.declared.parts.Parts.{Parts}
 use Rattle.bus.specs.With.{parts_with_registers}
 use Rattle.bus.specs.Seen.{Seen}
 use Rattle.bus.specs.Outcomes.{bind}
-use Rattle.bus.specs.Registers.{read_at, ram_with}
+use Rattle.bus.specs.Registers.{read_at, written_at, ram_with}
 
 -- the byte at PC, which moves on; it has to be in the image
 abbrev pub fetched : Parts → Seen → Result (Parts × ℕ) Fault
@@ -46,6 +46,10 @@ addressed m view IndY = bind (fetched m view) (λ s. bind (pointer_at s.0 view s
 abbrev pub operand_of : Parts → Seen → Operand → Result (Parts × ℕ) Fault
 operand_of m view Imm = fetched m view
 operand_of m view (At place) = bind (addressed m view place) (λ s. bind (read_at s.0 view s.1) (λ v. Ok (s.0, v)))
+
+-- a byte stored at a place, which is not read
+abbrev pub stored : Parts → Seen → Place → ℕ → Result Parts Fault
+stored m view place v = bind (addressed m view place) (λ s. written_at s.0 view.pc s.1 v)
 
 -- a push stores at SP and lowers it, a pull raises SP and reads there; both only in RAM
 abbrev pub byte_pushed : Parts → ℕ → ℕ → Result Parts Fault

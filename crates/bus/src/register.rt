@@ -1,7 +1,7 @@
 ghost use Rattle.std.specs.Prelude.{◌≡◌};
 ghost use Rattle.bus.specs.Outcomes.{after};
 ghost use Rattle.bus.specs.Seen.{seen};
-ghost use Rattle.bus.specs.Registers.{register_read, read_at, register_written, written_at};
+ghost use Rattle.bus.specs.Registers.{register_at, missing_modes, register_read, read_at, register_written, written_at};
 
 use crate::image::{FIRST, image_at};
 use crate::parts::Parts;
@@ -21,104 +21,172 @@ const HIGH: u8 = 0xf0;
 
 const LOW: u8 = 0xe0;
 
-impl Parts {
-    // The byte at an address, before the host's word.
-    pub fn read(&self, view: View, address: u16) -> Result<u8, Fault>
-        ensures { result ≡ read_at self.now (seen view.entry) address }
+// The registers, by the data sheet's names. T0 is read where TDR0 is written, and BITR where CKCTLR is.
+#[derive(Clone, Copy)]
+pub enum Register {
+    Ra,
+    Raio,
+    Rb,
+    Rbio,
+    Rc,
+    Rcio,
+    Rafunc,
+    Rbfunc,
+    Pupsel,
+    Tm0,
+    Tdr0,
+    Tm1,
+    Tdr1,
+    T1,
+    Bur,
+    Ienh,
+    Ienl,
+    Irqh,
+    Irql,
+    Ieds,
+    Ckctlr,
+    Wdtr,
+    Pfdr,
+}
+
+impl Register {
+    // The register at an address.
+    fn at(address: u16) -> Option<Self>
+        ensures { result ≡ register_at address }
     {
-        match self.memory.get(address) {
-            Some(byte) => Ok(byte),
-            None if address >= FIRST => Ok(image_at(view.image, address)),
-            None => self.read_register(view, address),
+        match address {
+            0xc0 => Some(Register::Ra),
+            0xc1 => Some(Register::Raio),
+            0xc2 => Some(Register::Rb),
+            0xc3 => Some(Register::Rbio),
+            0xc4 => Some(Register::Rc),
+            0xc5 => Some(Register::Rcio),
+            0xca => Some(Register::Rafunc),
+            0xcb => Some(Register::Rbfunc),
+            0xcc => Some(Register::Pupsel),
+            0xd0 => Some(Register::Tm0),
+            0xd1 => Some(Register::Tdr0),
+            0xd2 => Some(Register::Tm1),
+            0xd3 => Some(Register::Tdr1),
+            0xd4 => Some(Register::T1),
+            0xde => Some(Register::Bur),
+            0xe2 => Some(Register::Ienh),
+            0xe3 => Some(Register::Ienl),
+            0xe4 => Some(Register::Irqh),
+            0xe5 => Some(Register::Irql),
+            0xe6 => Some(Register::Ieds),
+            0xec => Some(Register::Ckctlr),
+            0xed => Some(Register::Wdtr),
+            0xef => Some(Register::Pfdr),
+            _ => None,
         }
     }
 
-    fn read_register(&self, view: View, address: u16) -> Result<u8, Fault>
-        ensures { result ≡ register_read self.now (seen view.entry) address }
+    // The bits that would set a mode that is not there.
+    fn missing_modes(self) -> u8
+        ensures { result ≡ missing_modes self }
     {
-        match address {
-            0xc0 => Ok((self.ports.read(view.host) % 256) as u8),
-            0xc2 => Ok((self.ports.read(view.host) / 256 % 32) as u8),
-            0xc4 => Ok((self.ports.read(view.host) / 8192 % 4) as u8),
-            0xd0 => Ok(self.timers.pair[0].control),
-            0xd1 => Ok(self.timers.pair[0].count),
-            0xd2 => Ok(self.timers.pair[1].control),
-            0xd4 => Ok(self.timers.pair[1].count),
-            0xe2 => Ok(self.requests.ienh),
-            0xe3 => Ok(self.requests.ienl),
-            0xe4 => Ok(self.requests.irqh),
-            0xe5 => Ok(self.requests.irql),
-            0xe6 => Ok(self.requests.ieds),
-            0xec => Ok(self.basic.bitr),
-            0xed => Ok(self.basic.wdtr),
-            0xef => Ok(self.pfdr),
-            0xc1 | 0xc3 | 0xc5 | 0xca | 0xcb | 0xcc | 0xd3 | 0xde => Err(Fault::ReadOfWriteOnly {
+        match self {
+            Register::Tm0 => CAP0,
+            Register::Tm1 => TM1_MODES,
+            Register::Ckctlr => RCWDT,
+            _ => 0,
+        }
+    }
+}
+
+impl Parts {
+    // A register as it is read before the host's word, unless it is write-only.
+    fn load_register(&self, register: Register, host: u16) -> Option<u8>
+        ensures { result ≡ register_read self.now host register }
+    {
+        match register {
+            Register::Ra => Some((self.ports.read(host) % 256) as u8),
+            Register::Rb => Some((self.ports.read(host) / 256 % 32) as u8),
+            Register::Rc => Some((self.ports.read(host) / 8192 % 4) as u8),
+            Register::Tm0 => Some(self.timers.pair[0].control),
+            Register::Tdr0 => Some(self.timers.pair[0].count),
+            Register::Tm1 => Some(self.timers.pair[1].control),
+            Register::T1 => Some(self.timers.pair[1].count),
+            Register::Ienh => Some(self.requests.ienh),
+            Register::Ienl => Some(self.requests.ienl),
+            Register::Irqh => Some(self.requests.irqh),
+            Register::Irql => Some(self.requests.irql),
+            Register::Ieds => Some(self.requests.ieds),
+            Register::Ckctlr => Some(self.basic.bitr),
+            Register::Wdtr => Some(self.basic.wdtr),
+            Register::Pfdr => Some(self.pfdr),
+            Register::Raio | Register::Rbio | Register::Rcio => None,
+            Register::Rafunc | Register::Rbfunc | Register::Pupsel => None,
+            Register::Tdr1 | Register::Bur => None,
+        }
+    }
+
+    // The byte at an address.
+    pub fn read(&self, view: &View, address: u16) -> Result<u8, Fault>
+        ensures { result ≡ read_at self.now (seen view.now) address }
+    {
+        if let Some(byte) = self.memory.get(address) {
+            return Ok(byte);
+        }
+        if address >= FIRST {
+            return Ok(image_at(view.image, address));
+        }
+        let register = Register::at(address).ok_or(view.unoccupied(address))?;
+        self.load_register(register, view.host)
+            .ok_or(Fault::ReadOfWriteOnly {
                 pc: view.pc,
                 address,
-            }),
-            _ => Err(view.unoccupied(address)),
+            })
+    }
+
+    // Writes a register, unless it is read-only. Bits without a name are dropped.
+    fn store_register(&mut self, register: Register, v: u8) -> Option<()>
+        ensures { (self.new, result) ≡ register_written self.old register v }
+    {
+        match register {
+            Register::Ra => self.ports.ra = v,
+            Register::Raio => self.ports.raio = v,
+            Register::Rb => self.ports.rb = v % 32,
+            Register::Rbio => self.ports.rbio = v % 32,
+            Register::Rc => self.ports.rc = v % 4,
+            Register::Rcio => self.ports.rcio = v % 4,
+            Register::Rafunc => self.ports.rafunc = v,
+            Register::Rbfunc => self.ports.rbfunc = v % 32,
+            Register::Pupsel => self.ports.pupsel = v % 4,
+            Register::Tm0 => self.timers.pair[0].set_control(v % 64),
+            Register::Tdr0 => self.timers.pair[0].limit = v,
+            Register::Tm1 => self.timers.pair[1].set_control(v),
+            Register::Tdr1 => self.timers.pair[1].limit = v,
+            Register::T1 => return None,
+            Register::Bur => self.buzzer = Buzzer::new(v),
+            Register::Ienh => self.requests.ienh = v & HIGH,
+            Register::Ienl => self.requests.ienl = v & LOW,
+            Register::Irqh => self.requests.irqh = v & HIGH,
+            Register::Irql => self.requests.irql = v & LOW,
+            Register::Ieds => self.requests.ieds = v % 16,
+            Register::Ckctlr => self.basic.set_control(v),
+            Register::Wdtr => self.basic.set_watchdog(v),
+            Register::Pfdr => self.pfdr = v % 8,
         }
+        Some(())
     }
 
     // Writes a byte at an address.
     pub fn write(&mut self, pc: u16, address: u16, v: u8) -> Result<(), Fault>
         ensures { after result self.new ≡ written_at self.old pc address v }
     {
-        match self.memory.set(address, v) {
-            Some(()) => Ok(()),
-            None => self.write_register(pc, address, v),
+        if self.memory.set(address, v).is_some() {
+            return Ok(());
         }
-    }
-
-    fn write_register(&mut self, pc: u16, address: u16, v: u8) -> Result<(), Fault>
-        ensures { after result self.new ≡ register_written self.old pc address v }
-    {
-        match address {
-            0xc0 => self.ports.ra = v,
-            0xc1 => self.ports.raio = v,
-            0xc2 => self.ports.rb = v % 32,
-            0xc3 => self.ports.rbio = v % 32,
-            0xc4 => self.ports.rc = v % 4,
-            0xc5 => self.ports.rcio = v % 4,
-            0xca => self.ports.rafunc = v,
-            0xcb => self.ports.rbfunc = v % 32,
-            0xcc => self.ports.pupsel = v % 4,
-            0xd0 => {
-                if v & CAP0 != 0 {
-                    return Err(Fault::UnsupportedMode { pc, address });
-                }
-                self.timers.pair[0].set_control(v % 64);
-            }
-            0xd1 => self.timers.pair[0].limit = v,
-            0xd2 => {
-                if v & TM1_MODES != 0 {
-                    return Err(Fault::UnsupportedMode { pc, address });
-                }
-                self.timers.pair[1].set_control(v);
-            }
-            0xd3 => self.timers.pair[1].limit = v,
-            0xde => self.buzzer = Buzzer::new(v),
-            0xe2 => self.requests.ienh = v & HIGH,
-            0xe3 => self.requests.ienl = v & LOW,
-            0xe4 => self.requests.irqh = v & HIGH,
-            0xe5 => self.requests.irql = v & LOW,
-            0xe6 => self.requests.ieds = v % 16,
-            0xec => {
-                if v & RCWDT != 0 {
-                    return Err(Fault::UnsupportedMode { pc, address });
-                }
-                self.basic.set_control(v);
-            }
-            0xed => self.basic.set_watchdog(v),
-            0xef => self.pfdr = v % 8,
-            0xd4 => return Err(Fault::WriteToReadOnly { pc, address }),
-            _ => {
-                if address >= FIRST {
-                    return Err(Fault::WriteToReadOnly { pc, address });
-                }
-                return Err(Fault::Unoccupied { pc, address });
-            }
+        if address >= FIRST {
+            return Err(Fault::WriteToReadOnly { pc, address });
         }
-        Ok(())
+        let register = Register::at(address).ok_or(Fault::Unoccupied { pc, address })?;
+        if v & register.missing_modes() != 0 {
+            return Err(Fault::UnsupportedMode { pc, address });
+        }
+        self.store_register(register, v)
+            .ok_or(Fault::WriteToReadOnly { pc, address })
     }
 }

@@ -12,8 +12,8 @@ pub struct View<'a> {
 
 impl View<'_> {
     // The fault of an address where nothing is.
-    pub(crate) fn unoccupied(self, address: u16) -> Fault
-        ensures { result ≡ Fault.Unoccupied self.entry.pc address }
+    pub(crate) fn unoccupied(&self, address: u16) -> Fault
+        ensures { result ≡ Fault.Unoccupied self.now.pc address }
     {
         Fault::Unoccupied {
             pc: self.pc,

@@ -9,14 +9,14 @@ use Rattle.sheet.specs.declared.operation.AluOp.{AluOp}
 use Rattle.sheet.specs.declared.operation.Place.{Place}
 use Rattle.sheet.specs.declared.operation.Operand.{Operand}
 use Rattle.sheet.specs.Rule.{entry_at}
-use Rattle.cpu.specs.State.{switched, jumped}
+use Rattle.cpu.specs.State.{index_of, switched, jumped}
 use Rattle.cpu.specs.Effects.{transferred, raised_x}
 use Rattle.bus.specs.declared.parts.Parts.{Parts}
 use Rattle.bus.specs.With.{parts_with_mode}
 use Rattle.bus.specs.Seen.{Seen}
 use Rattle.bus.specs.Outcomes.{bind}
-use Rattle.bus.specs.Fetch.{fetched, word_fetched}
-use Rattle.instructions.specs.Operations.{by, gone_to, calculated_with, loaded_with, compared_with, stored_a, stored_index, number_stored, shifted_at, bit_put, branched_on, pushed_saved, popped_saved, called, page_called, table_called, broke, returned, returned_from_interrupt, sleep_mode}
+use Rattle.bus.specs.Fetch.{fetched, word_fetched, stored}
+use Rattle.instructions.specs.Operations.{by, gone_to, calculated_with, loaded_with, compared_with, number_stored, shifted_at, bit_put, branched_on, pushed_saved, popped_saved, called, page_called, table_called, broke, returned, returned_from_interrupt, sleep_mode}
 
 -- an operation without a branch to take
 abbrev pub plain : Result Parts Fault → Result (Parts × Bool) Fault
@@ -30,15 +30,15 @@ executed m view (op.Set1 b) = plain (bit_put m view b true)
 executed m view (op.Clr1 b) = plain (bit_put m view b false)
 executed m view (op.Branch b) = branched_on m view b
 executed m view (op.Alu o operand) = plain (calculated_with m view o operand)
-executed m view (op.Sta place) = plain (stored_a m view place)
+executed m view (op.Sta place) = plain (stored m view place m.registers.a)
 executed m view op.LdaNext = bind (calculated_with m view AluOp.Lda (Operand.At Place.AtX)) (λ s. Ok (by raised_x s, false))
-executed m view op.StaNext = bind (stored_a m view Place.AtX) (λ s. Ok (by raised_x s, false))
+executed m view op.StaNext = bind (stored m view Place.AtX m.registers.a) (λ s. Ok (by raised_x s, false))
 executed m view op.Ldm = plain (number_stored m view)
 executed m view (op.Shift o target) = plain (shifted_at m view o target)
 executed m view (op.Transfer t) = Ok (by (λ r. transferred r t) m, false)
 executed m view (op.Load i operand) = plain (loaded_with m view i operand)
 executed m view (op.Compare i operand) = plain (compared_with m view i operand)
-executed m view (op.Store i place) = plain (stored_index m view i place)
+executed m view (op.Store i place) = plain (stored m view place (index_of m.registers i))
 executed m view (op.Push s) = plain (pushed_saved m view.pc s)
 executed m view (op.Pop s) = plain (popped_saved m view.pc s)
 executed m view (op.Tcall n) = plain (table_called m view n)

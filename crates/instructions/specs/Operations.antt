@@ -17,21 +17,21 @@ use Rattle.sheet.specs.declared.operation.Place.{Place}
 use Rattle.sheet.specs.declared.operation.Operand.{Operand}
 use Rattle.sheet.specs.Rule.{mask_of}
 use Rattle.cpu.specs.declared.registers.Registers.{Registers}
-use Rattle.cpu.specs.State.{with_pc, same, flag_of, index_of, byte_of, restored, jumped, broken, switched, packed, unpacked, with_flags}
+use Rattle.cpu.specs.State.{has_bit, same, flag_of, index_of, byte_of, restored, jumped, broken, switched, packed, unpacked}
 use Rattle.cpu.specs.Effects.{calculated, compared, index_loaded, shifted, shifted_a, shifted_index, lowered_y}
 use Rattle.bus.specs.declared.parts.Parts.{Parts}
 use Rattle.bus.specs.With.{parts_with_registers}
 use Rattle.bus.specs.Seen.{Seen}
 use Rattle.bus.specs.Outcomes.{bind}
 use Rattle.bus.specs.Registers.{image_word, read_at, written_at}
-use Rattle.bus.specs.Fetch.{fetched, word_fetched, direct, addressed, operand_of, byte_pushed, byte_pulled, word_pushed, word_pulled}
+use Rattle.bus.specs.Fetch.{fetched, word_fetched, addressed, operand_of, stored, byte_pushed, byte_pulled, word_pushed, word_pulled}
 
 -- the parts with the registers that f makes of theirs, and with another PC
 abbrev pub by : (Registers → Registers) → Parts → Parts
 by f m = parts_with_registers m (f m.registers)
 
 abbrev pub gone_to : Parts → ℕ → Parts
-gone_to m address = by (λ s. with_pc s address) m
+gone_to m address = by (λ r. record r { pc = address }) m
 
 abbrev pub calculated_with : Parts → Seen → AluOp → Operand → Result Parts Fault
 calculated_with m view o operand = bind (operand_of m view operand) (λ s. Ok (by (λ r. calculated r o s.1) s.0))
@@ -42,16 +42,9 @@ loaded_with m view i operand = bind (operand_of m view operand) (λ s. Ok (by (�
 abbrev pub compared_with : Parts → Seen → Index → Operand → Result Parts Fault
 compared_with m view i operand = bind (operand_of m view operand) (λ s. Ok (by (λ r. compared r (index_of r i) s.1) s.0))
 
--- stores only write
-abbrev pub stored_a : Parts → Seen → Place → Result Parts Fault
-stored_a m view place = bind (addressed m view place) (λ s. written_at s.0 view.pc s.1 s.0.registers.a)
-
-abbrev pub stored_index : Parts → Seen → Index → Place → Result Parts Fault
-stored_index m view i place = bind (addressed m view place) (λ s. written_at s.0 view.pc s.1 (index_of s.0.registers i))
-
 -- LDM: a number, then dp
 abbrev pub number_stored : Parts → Seen → Result Parts Fault
-number_stored m view = bind (fetched m view) (λ s. bind (fetched s.0 view) (λ t. written_at t.0 view.pc (direct t.0 t.1) s.1))
+number_stored m view = bind (fetched m view) (λ s. stored s.0 view Place.Dp s.1)
 
 -- shifts, INC and DEC: memory is read and then written
 abbrev pub shifted_at : Parts → Seen → ShiftOp → Target → Result Parts Fault
@@ -64,7 +57,7 @@ shifted_at m view o (tg.At place) =
 
 -- a bit of a byte
 abbrev pub has_mask : ℕ → Bit → Bool
-has_mask v b = not (bit_and v (mask_of b) == 0)
+has_mask v b = has_bit v (mask_of b)
 
 abbrev pub with_mask : ℕ → Bit → Bool → ℕ
 with_mask v b on = cond on (bit_or v (mask_of b)) (bit_and v (255 - mask_of b))
@@ -125,8 +118,8 @@ abbrev pub returned : Parts → ℕ → Result Parts Fault
 returned m pc = bind (word_pulled m pc) (λ s. Ok (gone_to s.0 s.1))
 
 abbrev pub returned_from_interrupt : Parts → ℕ → Result Parts Fault
-returned_from_interrupt m pc = bind (byte_pulled m pc) (λ s. bind (word_pulled s.0 pc) (λ t. Ok (gone_to (by (λ r. with_flags r (unpacked s.1)) t.0) t.1)))
+returned_from_interrupt m pc = bind (byte_pulled m pc) (λ s. bind (word_pulled s.0 pc) (λ t. Ok (gone_to (by (λ r. record r { flags = unpacked s.1 }) t.0) t.1)))
 
 -- STOP: WAKEUP, bit 6 of CKCTLR, keeps the wake-up timer counting
 abbrev pub sleep_mode : Parts → Mode
-sleep_mode m = cond (m.basic.control / 64 % 2 == 1) WakeUpTimer Stopped
+sleep_mode m = cond (has_bit m.basic.control 0x40) WakeUpTimer Stopped

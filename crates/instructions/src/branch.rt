@@ -25,16 +25,16 @@ fn jump_if(parts: &mut Parts, rel: u8, taken: bool) -> bool
 }
 
 // Fetches the distance, and goes there if the branch is taken.
-fn branch_if(parts: &mut Parts, view: View, taken: bool) -> Result<bool, Fault>
-    ensures { outcome result parts.new ≡ branched parts.old (seen view.entry) taken }
+fn branch_if(parts: &mut Parts, view: &View, taken: bool) -> Result<bool, Fault>
+    ensures { outcome result parts.new ≡ branched parts.old (seen view.now) taken }
 {
     let rel = parts.fetch(view)?;
     Ok(jump_if(parts, rel, taken))
 }
 
 // BBS and BBC on dp.
-fn branch_on_bit(parts: &mut Parts, view: View, bit: Bit, on: bool) -> Result<bool, Fault>
-    ensures { outcome result parts.new ≡ branched_on parts.old (seen view.entry) (Branch.BitOfDp bit on) }
+fn branch_on_bit(parts: &mut Parts, view: &View, bit: Bit, on: bool) -> Result<bool, Fault>
+    ensures { outcome result parts.new ≡ branched_on parts.old (seen view.now) (Branch.BitOfDp bit on) }
 {
     let address = parts.address_of(view, Place::Dp)?;
     let rel = parts.fetch(view)?;
@@ -44,8 +44,8 @@ fn branch_on_bit(parts: &mut Parts, view: View, bit: Bit, on: bool) -> Result<bo
 }
 
 // DBNE on dp.
-fn count_down(parts: &mut Parts, view: View) -> Result<bool, Fault>
-    ensures { outcome result parts.new ≡ branched_on parts.old (seen view.entry) Branch.DbneDp }
+fn count_down(parts: &mut Parts, view: &View) -> Result<bool, Fault>
+    ensures { outcome result parts.new ≡ branched_on parts.old (seen view.now) Branch.DbneDp }
 {
     let address = parts.address_of(view, Place::Dp)?;
     let rel = parts.fetch(view)?;
@@ -56,8 +56,8 @@ fn count_down(parts: &mut Parts, view: View) -> Result<bool, Fault>
 }
 
 // A branch on a condition; the answer is whether it was taken.
-pub(crate) fn branch(parts: &mut Parts, view: View, branch: Branch) -> Result<bool, Fault>
-    ensures { outcome result parts.new ≡ branched_on parts.old (seen view.entry) branch }
+pub(crate) fn branch(parts: &mut Parts, view: &View, branch: Branch) -> Result<bool, Fault>
+    ensures { outcome result parts.new ≡ branched_on parts.old (seen view.now) branch }
 {
     match branch {
         Branch::BitOfA(bit, on) => {

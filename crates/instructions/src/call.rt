@@ -24,22 +24,22 @@ fn call_at(parts: &mut Parts, pc: u16, address: u16) -> Result<(), Fault>
     Ok(())
 }
 
-pub(crate) fn call(parts: &mut Parts, view: View) -> Result<(), Fault>
-    ensures { after result parts.new ≡ called parts.old (seen view.entry) }
+pub(crate) fn call(parts: &mut Parts, view: &View) -> Result<(), Fault>
+    ensures { after result parts.new ≡ called parts.old (seen view.now) }
 {
     let address = parts.fetch_word(view)?;
     call_at(parts, view.pc, address)
 }
 
-pub(crate) fn page_call(parts: &mut Parts, view: View) -> Result<(), Fault>
-    ensures { after result parts.new ≡ page_called parts.old (seen view.entry) }
+pub(crate) fn page_call(parts: &mut Parts, view: &View) -> Result<(), Fault>
+    ensures { after result parts.new ≡ page_called parts.old (seen view.now) }
 {
     let u = parts.fetch(view)?;
     call_at(parts, view.pc, PCALL + u as u16)
 }
 
-pub(crate) fn table_call(parts: &mut Parts, view: View, n: u8) -> Result<(), Fault>
-    ensures { after result parts.new ≡ table_called parts.old (seen view.entry) n }
+pub(crate) fn table_call(parts: &mut Parts, view: &View, n: u8) -> Result<(), Fault>
+    ensures { after result parts.new ≡ table_called parts.old (seen view.now) n }
 {
     let address = image_word(view.image, TCALL0 - 2 * n as u16);
     call_at(parts, view.pc, address)
@@ -58,8 +58,8 @@ pub fn interrupt(parts: &mut Parts, image: &[u8], pc: u16, vector: u16) -> Resul
 }
 
 // BRK.
-pub(crate) fn software_break(parts: &mut Parts, view: View) -> Result<(), Fault>
-    ensures { after result parts.new ≡ broke parts.old (seen view.entry) }
+pub(crate) fn software_break(parts: &mut Parts, view: &View) -> Result<(), Fault>
+    ensures { after result parts.new ≡ broke parts.old (seen view.now) }
 {
     parts.registers.set_break();
     interrupt(parts, view.image, view.pc, TCALL0)
@@ -68,8 +68,7 @@ pub(crate) fn software_break(parts: &mut Parts, view: View) -> Result<(), Fault>
 pub(crate) fn return_from_call(parts: &mut Parts, pc: u16) -> Result<(), Fault>
     ensures { after result parts.new ≡ returned parts.old pc }
 {
-    let address = parts.pull_word(pc)?;
-    parts.registers.pc = address;
+    parts.registers.pc = parts.pull_word(pc)?;
     Ok(())
 }
 

@@ -9,9 +9,7 @@ use crate::branch::branch;
 use crate::call::{
     call, page_call, return_from_call, return_from_interrupt, software_break, table_call,
 };
-use crate::memory::{
-    calculate, compare, load, pop, push, put_bit, shift, store, store_a, store_number,
-};
+use crate::memory::{calculate, compare, load, pop, push, put_bit, shift, store_number};
 use bus::parts::Parts;
 use bus::view::View;
 use faults::Fault;
@@ -26,7 +24,7 @@ const WAKEUP: u8 = 0x40;
 fn sleep_mode(parts: &Parts) -> Mode
     ensures { result ≡ sleep_mode parts.now }
 {
-    if parts.basic.control / WAKEUP % 2 == 1 {
+    if parts.basic.control & WAKEUP != 0 {
         Mode::WakeUpTimer
     } else {
         Mode::Stopped
@@ -34,8 +32,8 @@ fn sleep_mode(parts: &Parts) -> Mode
 }
 
 // What an operation does once its code is fetched; the answer is whether its branch was taken.
-fn execute(parts: &mut Parts, view: View, operation: Operation) -> Result<bool, Fault>
-    ensures value { outcome result parts.new ≡ executed parts.old (seen view.entry) operation }
+fn execute(parts: &mut Parts, view: &View, operation: Operation) -> Result<bool, Fault>
+    ensures value { outcome result parts.new ≡ executed parts.old (seen view.now) operation }
     ensures branches { IfOk result (λ t. t ≡ true → is_branch operation ≡ true) }
 {
     match operation {
@@ -45,13 +43,13 @@ fn execute(parts: &mut Parts, view: View, operation: Operation) -> Result<bool, 
         Operation::Clr1(bit) => put_bit(parts, view, bit, false)?,
         Operation::Branch(b) => return branch(parts, view, b),
         Operation::Alu(op, operand) => calculate(parts, view, op, operand)?,
-        Operation::Sta(place) => store_a(parts, view, place)?,
+        Operation::Sta(place) => parts.store(view, place, parts.registers.a)?,
         Operation::LdaNext => {
             calculate(parts, view, AluOp::Lda, Operand::At(Place::AtX))?;
             parts.registers.raise_x();
         }
         Operation::StaNext => {
-            store_a(parts, view, Place::AtX)?;
+            parts.store(view, Place::AtX, parts.registers.a)?;
             parts.registers.raise_x();
         }
         Operation::Ldm => store_number(parts, view)?,
@@ -59,15 +57,17 @@ fn execute(parts: &mut Parts, view: View, operation: Operation) -> Result<bool, 
         Operation::Transfer(way) => parts.registers.transfer(way),
         Operation::Load(index, operand) => load(parts, view, index, operand)?,
         Operation::Compare(index, operand) => compare(parts, view, index, operand)?,
-        Operation::Store(index, place) => store(parts, view, index, place)?,
+        Operation::Store(index, place) => {
+            let byte = parts.registers.index(index);
+            parts.store(view, place, byte)?;
+        }
         Operation::Push(what) => push(parts, view.pc, what)?,
         Operation::Pop(what) => pop(parts, view.pc, what)?,
         Operation::Tcall(n) => table_call(parts, view, n)?,
         Operation::Pcall => page_call(parts, view)?,
         Operation::Call => call(parts, view)?,
         Operation::Jmp => {
-            let address = parts.fetch_word(view)?;
-            parts.registers.pc = address;
+            parts.registers.pc = parts.fetch_word(view)?;
         }
         Operation::Bra => {
             let rel = parts.fetch(view)?;
@@ -77,8 +77,7 @@ fn execute(parts: &mut Parts, view: View, operation: Operation) -> Result<bool, 
         Operation::Ret => return_from_call(parts, view.pc)?,
         Operation::Reti => return_from_interrupt(parts, view.pc)?,
         Operation::Stop => {
-            let mode = sleep_mode(parts);
-            parts.mode = mode;
+            parts.mode = sleep_mode(parts);
         }
         Operation::Nop => {}
     }
@@ -105,8 +104,8 @@ pub fn instruct(parts: &mut Parts, image: &[u8], host: u16) -> Result<u8, Fault>
         host,
         pc: parts.registers.pc,
     };
-    let code = parts.fetch(view)?;
+    let code = parts.fetch(&view)?;
     let entry = entry_of(code);
-    let taken = execute(parts, view, entry.operation)?;
+    let taken = execute(parts, &view, entry.operation)?;
     Ok(ticks_of(entry, taken))
 }

@@ -1,7 +1,7 @@
 ghost use Rattle.std.specs.Prelude.{◌≡◌};
 ghost use Rattle.bus.specs.Outcomes.{after};
 ghost use Rattle.bus.specs.Seen.{seen};
-ghost use Rattle.instructions.specs.Operations.{calculated_with, loaded_with, compared_with, stored_a, stored_index, number_stored, shifted_at, with_mask, bit_put, pushed_saved, popped_saved};
+ghost use Rattle.instructions.specs.Operations.{calculated_with, loaded_with, compared_with, number_stored, shifted_at, with_mask, bit_put, pushed_saved, popped_saved};
 
 use bus::parts::Parts;
 use bus::view::View;
@@ -11,11 +11,11 @@ use sheet::operation::{AluOp, Bit, Index, Operand, Place, Saved, ShiftOp, Target
 // ADC, SBC, CMP, OR, AND, EOR and LDA.
 pub(crate) fn calculate(
     parts: &mut Parts,
-    view: View,
+    view: &View,
     op: AluOp,
     operand: Operand,
 ) -> Result<(), Fault>
-    ensures { after result parts.new ≡ calculated_with parts.old (seen view.entry) op operand }
+    ensures { after result parts.new ≡ calculated_with parts.old (seen view.now) op operand }
 {
     let v = parts.operand(view, operand)?;
     parts.registers.calculate(op, v);
@@ -25,11 +25,11 @@ pub(crate) fn calculate(
 // LDX and LDY.
 pub(crate) fn load(
     parts: &mut Parts,
-    view: View,
+    view: &View,
     index: Index,
     operand: Operand,
 ) -> Result<(), Fault>
-    ensures { after result parts.new ≡ loaded_with parts.old (seen view.entry) index operand }
+    ensures { after result parts.new ≡ loaded_with parts.old (seen view.now) index operand }
 {
     let v = parts.operand(view, operand)?;
     parts.registers.load(index, v);
@@ -39,47 +39,33 @@ pub(crate) fn load(
 // CMPX and CMPY.
 pub(crate) fn compare(
     parts: &mut Parts,
-    view: View,
+    view: &View,
     index: Index,
     operand: Operand,
 ) -> Result<(), Fault>
-    ensures { after result parts.new ≡ compared_with parts.old (seen view.entry) index operand }
+    ensures { after result parts.new ≡ compared_with parts.old (seen view.now) index operand }
 {
     let v = parts.operand(view, operand)?;
     parts.registers.compare(index, v);
     Ok(())
 }
 
-// STA.
-pub(crate) fn store_a(parts: &mut Parts, view: View, place: Place) -> Result<(), Fault>
-    ensures { after result parts.new ≡ stored_a parts.old (seen view.entry) place }
-{
-    let address = parts.address_of(view, place)?;
-    parts.write(view.pc, address, parts.registers.a)
-}
-
-// STX and STY.
-pub(crate) fn store(parts: &mut Parts, view: View, index: Index, place: Place) -> Result<(), Fault>
-    ensures { after result parts.new ≡ stored_index parts.old (seen view.entry) index place }
-{
-    let address = parts.address_of(view, place)?;
-    let v = parts.registers.index(index);
-    parts.write(view.pc, address, v)
-}
-
 // LDM.
-pub(crate) fn store_number(parts: &mut Parts, view: View) -> Result<(), Fault>
-    ensures { after result parts.new ≡ number_stored parts.old (seen view.entry) }
+pub(crate) fn store_number(parts: &mut Parts, view: &View) -> Result<(), Fault>
+    ensures { after result parts.new ≡ number_stored parts.old (seen view.now) }
 {
-    let v = parts.fetch(view)?;
-    let d = parts.fetch(view)?;
-    let address = parts.registers.direct(d);
-    parts.write(view.pc, address, v)
+    let byte = parts.fetch(view)?;
+    parts.store(view, Place::Dp, byte)
 }
 
 // Shifts, INC and DEC.
-pub(crate) fn shift(parts: &mut Parts, view: View, op: ShiftOp, target: Target) -> Result<(), Fault>
-    ensures { after result parts.new ≡ shifted_at parts.old (seen view.entry) op target }
+pub(crate) fn shift(
+    parts: &mut Parts,
+    view: &View,
+    op: ShiftOp,
+    target: Target,
+) -> Result<(), Fault>
+    ensures { after result parts.new ≡ shifted_at parts.old (seen view.now) op target }
 {
     match target {
         Target::A => {
@@ -107,8 +93,8 @@ fn with_bit(v: u8, bit: Bit, on: bool) -> u8
 }
 
 // SET1 and CLR1.
-pub(crate) fn put_bit(parts: &mut Parts, view: View, bit: Bit, on: bool) -> Result<(), Fault>
-    ensures { after result parts.new ≡ bit_put parts.old (seen view.entry) bit on }
+pub(crate) fn put_bit(parts: &mut Parts, view: &View, bit: Bit, on: bool) -> Result<(), Fault>
+    ensures { after result parts.new ≡ bit_put parts.old (seen view.now) bit on }
 {
     let address = parts.address_of(view, Place::Dp)?;
     let old = parts.read(view, address)?;
@@ -120,8 +106,8 @@ pub(crate) fn put_bit(parts: &mut Parts, view: View, bit: Bit, on: bool) -> Resu
 pub(crate) fn push(parts: &mut Parts, pc: u16, what: Saved) -> Result<(), Fault>
     ensures { after result parts.new ≡ pushed_saved parts.old pc what }
 {
-    let v = parts.registers.saved(what);
-    parts.push(pc, v)
+    let byte = parts.registers.saved(what);
+    parts.push(pc, byte)
 }
 
 // POP.

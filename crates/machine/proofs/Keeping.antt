@@ -1,8 +1,10 @@
 -- A tick keeps what every machine keeps.
-use Rattle.std.proofs.Common.{◌≡◌, ℕ, ◌+◌, ◌-◌, ◌/◌, ◌%◌, ◌<◌, Bool, true, false, cond, not, eqb, leb, List, IfOk, Ok, Err, Result, sym, subst, mod-lt, lit<}
+use Rattle.std.proofs.Common.{◌≡◌, ℕ, ◌+◌, ◌-◌, ◌/◌, ◌%◌, ◌<◌, Bool, true, false, cond, not, eqb, leb, ltb, List, IfOk, Some, None, Option, Ok, Err, Result, sym, subst, mod-lt, lit<}
+use Rattle.std.specs.Option.{ok_or}
 use lib.Bits.{bit_and}
 use Rattle.std.proofs.lemmas.Bool.{cond_both}
 use Rattle.faults.specs.declared.Fault.{Fault}
+use Rattle.faults.specs.declared.Fault.TheVariants.{Unoccupied, WriteToReadOnly}
 use Rattle.recorder.specs.declared.mode.Mode.{Mode}
 use Rattle.recorder.specs.declared.mode.Mode.TheVariants.{Running, WakeUpTimer, Stopped}
 use Rattle.counters.specs.declared.buzzer.Buzzer.{Buzzer}
@@ -24,13 +26,15 @@ use Rattle.sheet.specs.declared.operation.Operation.TheVariants as op
 use Rattle.bus.specs.declared.parts.Parts.{Parts}
 use Rattle.bus.specs.Seen.{Seen}
 use Rattle.bus.specs.Outcomes.{after, bind}
-use Rattle.bus.specs.Registers.{register_written, written_at}
-use Rattle.bus.specs.Fetch.{fetched, word_fetched, direct, addressed, operand_of, byte_pushed, byte_pulled, word_pushed, word_pulled}
+use Rattle.bus.specs.declared.register.Register.{Register}
+use Rattle.bus.specs.declared.register.Register.TheVariants as rg
+use Rattle.bus.specs.Registers.{register_at, missing_modes, register_written, register_taken, written_at}
+use Rattle.bus.specs.Fetch.{fetched, word_fetched, addressed, operand_of, stored, byte_pushed, byte_pulled, word_pushed, word_pulled}
 use Rattle.cpu.specs.declared.registers.Registers.{Registers}
 use Rattle.cpu.specs.State.{broken, same}
 use Rattle.cpu.specs.Effects.{lowered_y}
 use Rattle.bus.specs.With.{parts_with_registers, parts_with_requests}
-use Rattle.instructions.specs.Operations.{by, calculated_with, stored_a, shifted_at, has_mask, bit_put, jumped_if, branched, branched_on, called_at, interrupted}
+use Rattle.instructions.specs.Operations.{by, calculated_with, shifted_at, has_mask, bit_put, jumped_if, branched, branched_on, called_at, interrupted}
 use Rattle.instructions.specs.Execute.{plain, executed, instructed}
 use Rattle.ports.specs.Requests.{vector_of, accepted}
 use Rattle.machine.specs.declared.state.Machine.{Machine}
@@ -88,34 +92,28 @@ operands m view Imm h = fetches m view h
 operands m view (At place) h = then_all _ (addresses m view place h) (λ s k. after_read _ _ (λ v. goes k))
 
 -- a write of BUR clears the count, and no other touches it
-writes_register : (m : Parts) (pc address v : ℕ) → Kept m → All Kept (register_written m pc address v)
-writes_register m pc address v h =
-    either (eqb address 0xC0) _ _ (goes h)
-    (either (eqb address 0xC1) _ _ (goes h)
-    (either (eqb address 0xC2) _ _ (goes h)
-    (either (eqb address 0xC3) _ _ (goes h)
-    (either (eqb address 0xC4) _ _ (goes h)
-    (either (eqb address 0xC5) _ _ (goes h)
-    (either (eqb address 0xCA) _ _ (goes h)
-    (either (eqb address 0xCB) _ _ (goes h)
-    (either (eqb address 0xCC) _ _ (goes h)
-    (either (eqb address 0xD0) _ _ (either (eqb (bit_and v 0x20) 0) _ _ (goes h) stops)
-    (either (eqb address 0xD1) _ _ (goes h)
-    (either (eqb address 0xD2) _ _ (either (eqb (bit_and v 0x70) 0) _ _ (goes h) stops)
-    (either (eqb address 0xD3) _ _ (goes h)
-    (either (eqb address 0xDE) _ _ (goes (lit< tt))
-    (either (eqb address 0xE2) _ _ (goes h)
-    (either (eqb address 0xE3) _ _ (goes h)
-    (either (eqb address 0xE4) _ _ (goes h)
-    (either (eqb address 0xE5) _ _ (goes h)
-    (either (eqb address 0xE6) _ _ (goes h)
-    (either (eqb address 0xEC) _ _ (either (eqb (bit_and v 0x20) 0) _ _ (goes h) stops)
-    (either (eqb address 0xED) _ _ (goes h)
-    (either (eqb address 0xEF) _ _ (goes h)
-    (either (eqb address 0xD4) _ _ stops (either (leb 0xF800 address) _ _ stops stops)))))))))))))))))))))))
+keeps_written : (m : Parts) (r : Register) (v : ℕ) → Kept m → Kept (register_written m r v).0
+keeps_written m rg.Bur v h = lit< tt
+keeps_written m _ v h = h
+
+takes : (m : Parts) (o : Option Unit) (e : Fault) → Kept m → All Kept (after (ok_or o e) m)
+takes m (Some u) e h = goes h
+takes m None e h = stops
+
+after_found : {Q : Parts → Type 0} (o : Option Register) (e : Fault) (f : Register → Result Parts Fault) → ((r : Register) → All Q (f r)) → All Q (bind (ok_or o e) f)
+after_found (Some r) e f g = g r
+after_found None e f g = stops
+
+writes_register : (m : Parts) (pc address v : ℕ) (r : Register) → Kept m → All Kept (register_taken m pc address v r)
+writes_register m pc address v r h =
+    let s : Parts × Option Unit = register_written m r v in
+    either (eqb (bit_and v (missing_modes r)) 0) (after (ok_or s.1 (WriteToReadOnly pc address)) s.0) _ (takes s.0 s.1 (WriteToReadOnly pc address) (keeps_written m r v h)) stops
 
 writes : (m : Parts) (pc address v : ℕ) → Kept m → All Kept (written_at m pc address v)
-writes m pc address v h = either _ _ _ (goes h) (writes_register m pc address v h)
+writes m pc address v h =
+    either (ltb address 0x80) _ _ (goes h)
+    (either (leb 0xF800 address) _ _ stops
+    (after_found (register_at address) (Unoccupied pc address) (register_taken m pc address v) (λ r. writes_register m pc address v r h)))
 
 pushes : (m : Parts) (pc v : ℕ) → Kept m → All Kept (byte_pushed m pc v)
 pushes m pc v h = either _ _ _ (goes h) stops
@@ -158,8 +156,8 @@ shifts m view o tg.A h = goes h
 shifts m view o (tg.Index i) h = goes h
 shifts m view o (tg.At place) h = then_all _ (addresses m view place h) (λ s k. after_read _ _ (λ v. writes _ view.pc s.1 _ k))
 
-stores_a : (m : Parts) (view : Seen) (place : Place) → Kept m → All Kept (stored_a m view place)
-stores_a m view place h = then_all _ (addresses m view place h) (λ s k. writes s.0 view.pc s.1 _ k)
+stores : (m : Parts) (view : Seen) (place : Place) (v : ℕ) → Kept m → All Kept (stored m view place v)
+stores m view place v h = then_all _ (addresses m view place h) (λ s k. writes s.0 view.pc s.1 v k)
 
 calculates : (m : Parts) (view : Seen) (o : AluOp) (operand : Operand) → Kept m → All Kept (calculated_with m view o operand)
 calculates m view o operand h = then_all _ (operands m view operand h) (λ s k. goes k)
@@ -177,15 +175,15 @@ executes m view (op.Set1 b) h = plainly _ (puts_bit m view b true h)
 executes m view (op.Clr1 b) h = plainly _ (puts_bit m view b false h)
 executes m view (op.Branch b) h = branches_on m view b h
 executes m view (op.Alu o operand) h = plainly _ (calculates m view o operand h)
-executes m view (op.Sta place) h = plainly _ (stores_a m view place h)
+executes m view (op.Sta place) h = plainly _ (stores m view place m.registers.a h)
 executes m view op.LdaNext h = then_all _ (calculates m view AluOp.Lda (At AtX) h) (λ s k. goes k)
-executes m view op.StaNext h = then_all _ (stores_a m view AtX h) (λ s k. goes k)
-executes m view op.Ldm h = plainly _ (then_all _ (fetches m view h) (λ s k. then_all _ (fetches s.0 view k) (λ t l. writes t.0 view.pc (direct t.0 t.1) s.1 l)))
+executes m view op.StaNext h = then_all _ (stores m view AtX m.registers.a h) (λ s k. goes k)
+executes m view op.Ldm h = plainly _ (then_all _ (fetches m view h) (λ s k. stores s.0 view Dp s.1 k))
 executes m view (op.Shift o t) h = plainly _ (shifts m view o t h)
 executes m view (op.Transfer t) h = goes h
 executes m view (op.Load i operand) h = plainly _ (then_all _ (operands m view operand h) (λ s k. goes k))
 executes m view (op.Compare i operand) h = plainly _ (then_all _ (operands m view operand h) (λ s k. goes k))
-executes m view (op.Store i place) h = plainly _ (then_all _ (addresses m view place h) (λ s k. writes s.0 view.pc s.1 _ k))
+executes m view (op.Store i place) h = plainly _ (stores m view place _ h)
 executes m view (op.Push s) h = plainly _ (pushes m view.pc _ h)
 executes m view (op.Pop s) h = plainly _ (then_all _ (pulls m view.pc h) (λ t k. goes k))
 executes m view (op.Tcall n) h = plainly _ (calls_at m view.pc _ h)
