@@ -42,9 +42,7 @@ module _ (m : ℕ → ℕ) (cs₀ : List (Stretch PinSample)) where
             let s : pins_at m (t + j) ≡ x = same (t + j) (omega arith) (omega arith) in
             let z : t + suc j ≡ suc (t + j) = omega arith in
             cc
-        go (None, ds') e rest q =
-            let o : None ≡ Some c = ap (λ (a : Answer). a.0) e in
-            absurd (let z : ◌≡◌ {A = ℕ} 0 1 = cc in omega arith)
+        go (None, ds') e rest q = absurd (cc (ap (λ (a : Answer). a.0) e))
 
     stops : (ds : List (Stretch PinSample)) → pins_at m t ≡ x → appended pin_kind cs n 1 x ≡ (None, ds) → (j : ℕ) → walked m (t + suc j) cs₀ ≡ (reached t n (Some NoPinPlace), ds)
     stops ds same e zero =

@@ -1,5 +1,5 @@
 -- What a recording shows, and its chart.
-use Rattle.std.specs.Prelude.{ℕ, ◌%◌, ◌^◌, min, cond, List, ◌++◌, take, Some, None, Option, bit_or}
+use Rattle.std.specs.Prelude.{ℕ, ◌%◌, ◌^◌, min, cond, List, ◌++◌, take, Some, None, Option, Ok, Err, Result, bit_or}
 use Rattle.std.specs.List.{flat_map}
 use Rattle.faults.specs.declared.Fault.{Fault}
 use Rattle.faults.specs.declared.Fault.TheVariants.{BadPulseList, WaveOutOfRange}
@@ -40,6 +40,11 @@ wave_refused (Some w) = cond (wave_fits w.low w.high) None (Some WaveOutOfRange)
 abbrev pub or_else : Option Fault → Charted × List (Stretch PinSample) → List (Stretch PinSample) → Charted × List (Stretch PinSample)
 or_else None p cs = p
 or_else (Some f) p cs = (reached 0 0 (Some f), cs)
+
+-- the chart that a result stands for
+abbrev pub settled : Result Charted Fault → Charted
+settled (Ok c) = c
+settled (Err f) = reached 0 0 (Some f)
 
 -- the chart of a meaning with a wave, and of a recording
 abbrev pub waving : (ℕ → ℕ) → Option Wave → ℕ → List (Stretch PinSample) → Charted × List (Stretch PinSample)

@@ -19,10 +19,7 @@ fn quiet_until<P: PinHost>(host: &P, t: u64, end: u64) -> u64
     ensures within { result ≤ end }
     ensures quiet { Quiet (P.PinHost.meaning host.now) t result }
 {
-    match host.quiet_mark(t) {
-        Some(mark) if mark < end => mark,
-        _ => end,
-    }
+    host.quiet_mark(t).unwrap_or(end).min(end)
 }
 
 // Charts the words that a host shows from tick 0 on, from quiet mark to quiet mark, for `ticks` ticks or up to the horizon.
@@ -31,27 +28,21 @@ pub fn chart_pins<P: PinHost>(host: &P, ticks: u64, chart: &mut [Stretch<PinSamp
     ensures shown { Shows pin_kind (pins_at (P.PinHost.meaning host.now)) chart.new result.count result.ticks }
 {
     let end = ticks.min(HORIZON);
-    let mut tick = 0;
-    let mut count = 0;
-    while tick < end {
-        let next = quiet_until(host, tick, end);
+    let mut charted = Charted::default();
+    while charted.ticks < end {
+        let next = quiet_until(host, charted.ticks, end);
         let sample = PinSample {
-            levels: host.levels(tick),
+            levels: host.levels(charted.ticks),
             drive: 0,
         };
-        let Some(more) = append(chart, count, next - tick, sample) else {
+        let Some(count) = append(chart, charted.count, next - charted.ticks, sample) else {
             return Charted {
-                ticks: tick,
-                count,
                 fault: Some(Fault::NoPinPlace),
+                ..charted
             };
         };
-        count = more;
-        tick = next;
+        charted.ticks = next;
+        charted.count = count;
     }
-    Charted {
-        ticks: tick,
-        count,
-        fault: None,
-    }
+    charted
 }

@@ -11,15 +11,6 @@ use std::process::ExitCode;
 // How many stretches a chart has places for.
 const PLACES: usize = 65536;
 
-const BLANK: Stretch<PinSample> = Stretch {
-    offset: 0,
-    length: 0,
-    sample: PinSample {
-        levels: 0,
-        drive: 0,
-    },
-};
-
 // The description on standard input. None where it is wrong or memory ran out, which is told on standard error.
 fn read_recording(rt: &HostRuntime) -> anyhow::Result<Option<Recording>> {
     let mut text = Vec::new(rt.alloc());
@@ -41,7 +32,7 @@ fn main(rt: HostRuntime) -> anyhow::Result<ExitCode> {
     let Some(recording) = read_recording(&rt)? else {
         return Ok(ExitCode::FAILURE);
     };
-    let mut chart = vec![in rt.alloc(); BLANK; PLACES]?;
+    let mut chart = vec![in rt.alloc(); Stretch::<PinSample>::default(); PLACES]?;
     let out = print_recording(rt.alloc(), &recording, chart.as_mut_slice())?;
     rt.stdout().write_all(out.as_slice())?;
     Ok(ExitCode::SUCCESS)
