@@ -1,7 +1,7 @@
 -- What `appended` is in each case, and that ticks of one sample add up.
-use Rattle.std.proofs.Common.{◌≡◌, ℕ, zero, suc, ◌+◌, ◌-◌, ◌^◌, ◌<◌, ◌≤◌, Bool, true, false, cond, ◌||◌, eqb, ltb, leb, List, length, set, Some, None, Option, sym, refl, ap, ◌∙◌, subst, inl, inr, add_assoc, arith, length-set}
+use Rattle.std.proofs.Common.{◌≡◌, ℕ, zero, suc, ◌+◌, ◌-◌, ◌^◌, ◌<◌, ◌≤◌, Bool, true, false, cond, ◌&&◌, ◌||◌, ◌⊎◌, eqb, ltb, leb, List, length, set, slice_range, is_some, Some, None, Option, sym, refl, ap, ◌∙◌, subst, inl, inr, add_assoc, arith, length-set}
 use mathlib.Core.Bool.{false≢true}
-use Rattle.std.proofs.lemmas.List.{get_or-set_same, set-set}
+use Rattle.std.proofs.lemmas.List.{get_or-set_same, get_or-take, set-set}
 use Rattle.std.proofs.lemmas.Bool.{ltb-true, leb-true, eqb-true, lt-ltb, le-ltb, le-leb, eq-eqb, ne_eqb, and_parts, and_from, cases_Bool, cases_lt}
 use Rattle.std.proofs.lemmas.Bool.Decides.{nat_tests}
 use Rattle.recorder.specs.declared.stretch.Stretch.{Stretch}
@@ -25,24 +25,58 @@ module _ {X : Type 0} (K : Kind X) where
   pub room_true : (cs : List (Stretch X)) (n k : ℕ) → n ≤ length cs → end_of K cs n + k < 2 ^ 64 → roomy K cs n k ≡ true
   room_true cs n k p e = and_from _ _ (le-leb _ _ p) (lt-ltb _ _ e)
 
-  -- what a call learns from the tick at which more would begin
-  pub next_some : (cs : List (Stretch X)) (n k o : ℕ) → Some o ≡ cond (roomy K cs n k) (Some (end_of K cs n)) None → Room K cs n k × (o ≡ end_of K cs n)
-  next_some cs n k o = go (roomy K cs n k) refl
-    where
-      go : (b : Bool) → roomy K cs n k ≡ b → Some o ≡ cond b (Some (end_of K cs n)) None → Room K cs n k × (o ≡ end_of K cs n)
-      go true r e = (room_from cs n k r, cc)
-      go false r e = absurd (let z : ◌≡◌ {A = ℕ} 0 1 = cc in omega arith)
-
-  pub next_none : (cs : List (Stretch X)) (n k : ℕ) → None ≡ cond (roomy K cs n k) (Some (end_of K cs n)) None → roomy K cs n k ≡ false
-  next_none cs n k = go (roomy K cs n k)
-    where
-      go : (b : Bool) → None ≡ cond b (Some (end_of K cs n)) None → b ≡ false
-      go true e = absurd (let z : ◌≡◌ {A = ℕ} 0 1 = cc in omega arith)
-      go false e = refl
-
   -- the tick after the last counted stretch
   pub end_last : (cs : List (Stretch X)) (n : ℕ) → 0 < n → end_of K cs n ≡ end (place K cs (n - 1))
   end_last cs n h = rw (ne_eqb n 0 (λ e. omega arith)) refl
+
+  -- a chart's counted stretches ds tell what the chart tells
+  pub record Counted (cs ds : List (Stretch X)) (n : ℕ) : Type 0 where
+    pub places : n ≤ length cs
+    pub ends : end_of K ds (length ds) ≡ end_of K cs n
+    pub on : (x : X) → goes_on K ds (length ds) x ≡ goes_on K cs n x
+    pub room : (k : ℕ) → roomy K ds (length ds) k ≡ roomy K cs n k
+
+  pub counted : (cs ds : List (Stretch X)) (n : ℕ) → (0 ≤ n) × (n ≤ length cs) × (ds ≡ slice_range cs 0 n) × (length ds + 0 ≡ n) → Counted cs ds n
+  counted cs ds n lent = record {
+    places = lent.1;
+    ends = ends;
+    on = λ x. rw size (elim (cases_lt 0 n) [
+      | inl l ↦ ap (λ (c : Stretch X). ltb 0 n && K.like c.sample x) (last l)
+      | inr z ↦ (let none : n ≡ 0 = omega arith in rw none refl)
+    ]);
+    room = λ k. rw (ends, le-leb (length ds) (length ds) (omega arith), le-leb n (length cs) lent.1) refl;
+  }
+    where
+      size : length ds ≡ n
+      size = omega arith
+
+      last : 0 < n → place K ds (n - 1) ≡ place K cs (n - 1)
+      last l = ap (λ (bs : List (Stretch X)). place K bs (n - 1)) lent.2 ∙ get_or-take (n - 0) cs (n - 1) (stretch 0 0 K.none) (omega arith)
+
+      ends : end_of K ds (length ds) ≡ end_of K cs n
+      ends = rw size (elim (cases_lt 0 n) [
+        | inl l ↦ end_last ds n l ∙ ap (λ (c : Stretch X). end c) (last l) ∙ sym (end_last cs n l)
+        | inr z ↦ (let none : n ≡ 0 = omega arith in rw none refl)
+      ])
+
+  -- what an answer of `next_tick` to them tells of the chart
+  pub next_is_some : (cs ds : List (Stretch X)) (n k : ℕ) (r : Option ℕ) → Counted cs ds n → r ≡ cond (roomy K ds (length ds) k) (Some (end_of K ds (length ds))) None → is_some r ≡ roomy K cs n k
+  next_is_some cs ds n k r c e = go (roomy K ds (length ds) k) _ e ∙ c.room k
+    where
+      go : (b : Bool) (o : ℕ) → r ≡ cond b (Some o) None → is_some r ≡ b
+      go true o p = ap is_some p
+      go false o p = ap is_some p
+
+  pub next_some : (cs ds : List (Stretch X)) (n k o : ℕ) → Counted cs ds n → Some o ≡ cond (roomy K ds (length ds) k) (Some (end_of K ds (length ds))) None → (roomy K cs n k ≡ true) × (o ≡ end_of K cs n)
+  next_some cs ds n k o c e =
+      let fit = sym (next_is_some cs ds n k (Some o) c e) in
+      let some = rw (c.room k ∙ fit, c.ends) at e in
+      (fit, cc)
+
+  -- too few places
+  pub unplaced : (cs : List (Stretch X)) (n k : ℕ) → (n < 0) ⊎ (length cs < n) → roomy K cs n k ≡ false
+  unplaced cs n k (inl z) = absurd (omega arith)
+  unplaced cs n k (inr h) = grind (arith, nat_tests)
 
   pub adds_none : (cs : List (Stretch X)) (n k : ℕ) (x : X) → k ≡ 0 → appended K cs n k x ≡ (Some n, cs)
   unfolding appended
@@ -63,6 +97,17 @@ module _ {X : Type 0} (K : Kind X) where
   pub adds_full : (cs : List (Stretch X)) (n k : ℕ) (x : X) → 0 < k → roomy K cs n k ≡ true → goes_on K cs n x ≡ false → length cs ≤ n → appended K cs n k x ≡ (None, cs)
   unfolding appended
   adds_full cs n k x h r g l = rw (ne_eqb k 0 (λ z. omega arith), r, g, le-ltb n (length cs) l) refl
+
+  -- whether there is a place
+  pub found : (cs : List (Stretch X)) (n k : ℕ) (x : X) (r o : Bool) → 0 < k → roomy K cs n k ≡ r → goes_on K cs n x ≡ o → is_some (appended K cs n k x).0 ≡ r && (o || ltb n (length cs))
+  unfolding appended
+  found cs n k x r o h e f = rw (ne_eqb k 0 (λ z. omega arith), e, f) (go r o (ltb n (length cs)) _ _)
+    where
+      go : (r o l : Bool) (ls fs : List (Stretch X)) → is_some (cond {A = Answer X} r (cond o (Some n, ls) (cond l (Some (n + 1), fs) (None, cs))) (None, cs)).0 ≡ r && (o || l)
+      go false o l ls fs = refl
+      go true true l ls fs = refl
+      go true false true ls fs = refl
+      go true false false ls fs = refl
 
   -- the cases of `appended`
   pub data Way (cs : List (Stretch X)) (n k : ℕ) (x : X) : Type 0 where

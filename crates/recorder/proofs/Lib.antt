@@ -1,3 +1,2 @@
-pub mod Putting
 pub mod Appending
 pub mod Filling

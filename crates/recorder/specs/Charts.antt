@@ -8,7 +8,7 @@ abbrev pub stretch : {X : Type 0} → ℕ → ℕ → X → Stretch X
 stretch t k x = record { offset = t; length = k; sample = x }
 
 abbrev pub longer : {X : Type 0} → ℕ → Stretch X → Stretch X
-longer k c = record { offset = c.offset; length = c.length + k; sample = c.sample }
+longer k c = record c { length = c.length + k }
 
 -- the tick after its last
 abbrev pub end : {X : Type 0} → Stretch X → ℕ

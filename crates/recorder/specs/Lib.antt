@@ -1,6 +1,5 @@
 pub mod Kinds
 pub mod Charts
 pub mod Histories
-pub mod Puts
 pub mod Lines
 pub mod Samples

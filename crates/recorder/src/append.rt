@@ -1,4 +1,4 @@
-ghost use Rattle.std.specs.Prelude.{◌≡◌, ◌+◌, ◌^◌, ◌<◌, ◌≤◌, length, is_some, if◌then◌else◌, Some, None};
+ghost use Rattle.std.specs.Prelude.{◌≡◌, ◌+◌, length, is_some, if◌then◌else◌, Some, None};
 ghost use Rattle.recorder.specs.Charts.{end_of, goes_on, roomy, fitting, appended};
 ghost use Rattle.recorder.specs.Histories.{Adds};
 
@@ -8,73 +8,25 @@ use crate::stretch::{Sample, Stretch};
 pub fn fits<S: Sample>(chart: &[Stretch<S>], count: usize, tick: u64) -> bool
     ensures { result ≡ fitting S.kind chart.now count tick }
 {
-    if count > chart.len() {
+    let Some(counted) = chart.get(..count) else {
         return false;
-    }
-    if count == 0 {
-        return true;
-    }
-    let last = chart[count - 1];
-    last.offset <= tick && tick - last.offset == last.length
+    };
+    counted.last().is_none_or(|last| last.end() == Some(tick))
 }
 
 // Whether the last counted stretch has this sample.
-fn goes_on<S: Sample>(chart: &[Stretch<S>], count: usize, sample: &S) -> bool
-    requires { count ≤ length chart.now }
-    ensures { result ≡ goes_on S.kind chart.now count sample.now }
+fn goes_on<S: Sample>(counted: &[Stretch<S>], sample: &S) -> bool
+    ensures { result ≡ goes_on S.kind counted.now (length counted.now) sample.now }
 {
-    if count == 0 {
-        return false;
-    }
-    let last = chart[count - 1];
-    last.sample.is_like(sample)
+    counted.last().is_some_and(|last| last.sample == *sample)
 }
 
-// The tick after the last counted stretch, unless the chart lacks counted places or `ticks` more would pass 64 bits.
-fn next_tick<S: Sample>(chart: &[Stretch<S>], count: usize, ticks: u64) -> Option<u64>
-    ensures { result ≡ (if roomy S.kind chart.now count ticks then Some (end_of S.kind chart.now count) else None) }
+// The tick after the last counted stretch, unless `ticks` more would pass 64 bits.
+fn next_tick<S: Sample>(counted: &[Stretch<S>], ticks: u64) -> Option<u64>
+    ensures { result ≡ (if roomy S.kind counted.now (length counted.now) ticks then Some (end_of S.kind counted.now (length counted.now)) else None) }
 {
-    if count > chart.len() {
-        return None;
-    }
-    if count == 0 {
-        return Some(0);
-    }
-    let last = chart[count - 1];
-    let end = last.offset.checked_add(last.length)?;
-    match end.checked_add(ticks) {
-        Some(_) => Some(end),
-        None => None,
-    }
-}
-
-// Lengthens the last counted stretch by `ticks` if it has this sample, or begins a new one at `offset` in the next place.
-fn extend<S: Sample>(
-    chart: &mut [Stretch<S>],
-    count: usize,
-    offset: u64,
-    ticks: u64,
-    sample: S,
-) -> Option<usize>
-    requires some { 0 < ticks }
-    requires places { count ≤ length chart.old }
-    requires early { end_of S.kind chart.old count + ticks < 2 ^ 64 }
-    requires next { offset ≡ end_of S.kind chart.old count }
-    ensures { (result, chart.new) ≡ appended S.kind chart.old count ticks sample }
-{
-    if goes_on(chart, count, &sample) {
-        chart[count - 1].length += ticks;
-        return Some(count);
-    }
-    if count >= chart.len() {
-        return None;
-    }
-    chart[count] = Stretch {
-        offset,
-        length: ticks,
-        sample,
-    };
-    Some(count + 1)
+    let end = counted.last().map_or(Some(0), |last| last.end())?;
+    end.checked_add(ticks).map(|_| end)
 }
 
 // Whether there is a place for `ticks` more ticks of one sample.
@@ -84,10 +36,10 @@ pub fn has_place<S: Sample>(chart: &[Stretch<S>], count: usize, ticks: u64, samp
     if ticks == 0 {
         return true;
     }
-    let Some(_) = next_tick(chart, count, ticks) else {
+    let Some(counted) = chart.get(..count) else {
         return false;
     };
-    goes_on(chart, count, sample) || count < chart.len()
+    next_tick(counted, ticks).is_some() && (goes_on(counted, sample) || count < chart.len())
 }
 
 // Adds `ticks` more ticks of one sample, and answers the new count. None where there is no place for them, and then nothing changes.
@@ -103,8 +55,19 @@ pub fn append<S: Sample>(
     if ticks == 0 {
         return Some(count);
     }
-    let Some(offset) = next_tick(chart, count, ticks) else {
+    let counted = chart.get(..count)?;
+    let offset = next_tick(counted, ticks)?;
+    if goes_on(counted, &sample) {
+        chart[count - 1].length += ticks;
+        return Some(count);
+    }
+    if count == chart.len() {
         return None;
+    }
+    chart[count] = Stretch {
+        offset,
+        length: ticks,
+        sample,
     };
-    extend(chart, count, offset, ticks, sample)
+    Some(count + 1)
 }

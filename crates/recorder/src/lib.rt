@@ -5,5 +5,5 @@ pub mod append;
 pub mod lines;
 pub mod mode;
 pub mod pin_sample;
-mod puts;
 pub mod stretch;
+mod texts;

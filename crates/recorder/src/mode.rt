@@ -1,8 +1,9 @@
 ghost use Rattle.std.specs.Prelude.{◌≡◌};
+ghost use Rattle.std.proofs.Common.{rules};
 ghost use Rattle.recorder.specs.Samples.{mode_letter, mode_kind, mode_script};
 
-use crate::puts::put_byte;
 use crate::stretch::{Sample, TEXT};
+use arrayvec::ArrayVec;
 
 // What the chip does at a tick: it runs, or sleeps with its wake-up timer counting, or sleeps with everything stopped.
 #[derive(Clone, Copy, PartialEq, Eq, Default, Debug)]
@@ -14,7 +15,7 @@ pub enum Mode {
 }
 
 impl Mode {
-    fn code(self) -> u8
+    pub fn letter(self) -> u8
         ensures { result ≡ mode_letter self }
     {
         match self {
@@ -30,15 +31,15 @@ impl Sample for Mode {
 
     ghost script = { mode_script };
 
-    fn is_like(&self, other: &Mode) -> bool {
-        self.code() == other.code()
-    }
+    ghost alike = { Prim.search rules };
 
     fn letter() -> u8 {
         b'M'
     }
 
-    fn write_text(&self, out: &mut [u8; TEXT]) -> usize {
-        put_byte(out, 0, self.code())
+    fn text(&self) -> ArrayVec<u8, TEXT> {
+        let mut text = ArrayVec::new();
+        text.push(self.letter());
+        text
     }
 }

@@ -1,7 +1,9 @@
+ghost use Rattle.std.specs.Prelude.{refl};
 ghost use Rattle.recorder.specs.Samples.{pin_kind, pin_script};
 
-use crate::puts::{put_byte, put_hex};
 use crate::stretch::{Sample, TEXT};
+use crate::texts::{add, hex4};
+use arrayvec::ArrayVec;
 
 // The pins at a tick, a bit each: their levels, and which of them the chip drives.
 #[derive(Clone, Copy, PartialEq, Eq, Default, Debug)]
@@ -15,17 +17,17 @@ impl Sample for PinSample {
 
     ghost script = { pin_script };
 
-    fn is_like(&self, other: &PinSample) -> bool {
-        self.levels == other.levels && self.drive == other.drive
-    }
+    ghost alike = { λ x y. refl };
 
     fn letter() -> u8 {
         b'P'
     }
 
-    fn write_text(&self, out: &mut [u8; TEXT]) -> usize {
-        let gap = put_hex(out, 0, self.levels);
-        let second = put_byte(out, gap, b' ');
-        put_hex(out, second, self.drive)
+    fn text(&self) -> ArrayVec<u8, TEXT> {
+        let mut text = ArrayVec::new();
+        add(&mut text, &hex4(self.levels));
+        text.push(b' ');
+        add(&mut text, &hex4(self.drive));
+        text
     }
 }
