@@ -35,7 +35,7 @@ Passed (t ∷ ts) = (t.0 ≡ true) × Passed ts
 all_passed : (ts : List (Bool × Fault)) → first_failed ts ≡ None → Passed ts
 all_passed [] e = tt
 all_passed ((true, f) ∷ ts) e = (refl, all_passed ts e)
-all_passed ((false, f) ∷ ts) e = absurd (let z : ◌≡◌ {A = ℕ} 0 1 = cc in omega arith)
+all_passed ((false, f) ∷ ts) e = cc
 
 accepts : (image : List ℕ) (grant : ℕ) (h : Held) (c : Charts) → refused image grant h c ≡ None → Passed (tests image grant h c)
 accepts image grant h c e = all_passed (tests image grant h c) e
@@ -52,7 +52,7 @@ module _ (s : Start) (host : ℕ → ℕ) (places : Places) where
       go : (o : Option Fault) → refused s.image grant h c ≡ o → Follows s host places h' c' (n + ticks) × (refused s.image grant h c ≡ None → Ended s host places n grant ticks fault)
       go (Some f) q =
           subst End (sym (e ∙ played_by s.image host grant h c (Some f) q))
-          (subst (Follows s host places h c) (omega arith) F, λ none. absurd (let z : ◌≡◌ {A = ℕ} 0 1 = cc in omega arith))
+          (subst (Follows s host places h c) (omega arith) F, λ none. cc)
       go None q =
           let a = accepts s.image grant h c q in
           let time = leb-true _ _ a.1.1.0 in
@@ -83,14 +83,14 @@ next_tick s host places l m = go (ticked s.image host l.moment) refl
   where
     is : (t : Moment × Samples) (p q : Bool) → cond p (cond q (Ok (grown l t)) (Err NoModePlace)) (Err NoPinPlace) ≡ Ok m → grown l t ≡ m
     is t true true e = cc
-    is t true false e = absurd (let z : ◌≡◌ {A = ℕ} 0 1 = cc in omega arith)
-    is t false q e = absurd (let z : ◌≡◌ {A = ℕ} 0 1 = cc in omega arith)
+    is t true false e = cc
+    is t false q e = cc
 
     go : (r : Result (Moment × Samples) Fault) → ticked s.image host l.moment ≡ r → bind r (λ t. in_places places (grown l t)) ≡ Ok m → m.moment.tick ≡ l.moment.tick + 1
     go (Ok t) et e =
         ap (λ (v : Model). v.moment.tick) (sym (is t (leb (rows pin_kind (grown l t).pins) places.pins) (leb (rows mode_kind (grown l t).modes) places.modes) e))
         ∙ tick_after s.image (host (l.moment.tick - 1)) (host l.moment.tick) l.moment t (sym et)
-    go (Err f) et e = absurd (let z : ◌≡◌ {A = ℕ} 0 1 = cc in omega arith)
+    go (Err f) et e = cc
 
 -- the model's steps look at the host below their tick only
 module _ (s : Start) (host host₂ : ℕ → ℕ) (places : Places) where
@@ -101,7 +101,7 @@ module _ (s : Start) (host host₂ : ℕ → ℕ) (places : Places) where
     where
       go : (r : Result Model Fault) → after s host places n ≡ r → bind r (next s.image host places) ≡ Ok m → ((l : Model) × (after s host places n ≡ Ok l) × (next s.image host places l ≡ Ok m))
       go (Ok l) e q = (l, e, q)
-      go (Err f) e q = absurd (let z : ◌≡◌ {A = ℕ} 0 1 = cc in omega arith)
+      go (Err f) e q = cc
 
   after_tick : (n : ℕ) (m : Model) → after s host places n ≡ Ok m → m.moment.tick ≡ n
   unfolding after

@@ -99,7 +99,7 @@ module _ {X : Type 0} (K : Kind X) where
         let D : Draws places (suc n) m ds (x ∷ xs) = record { counts = counts; long = ap suc d.long; size = size; fit = subst (λ (t : ℕ). Fit K ds m t) next fit; draws = draws } in
         record {
           room = λ j q. (let i : m ≡ j = cc in (le-leb _ _ (omega arith), subst (λ (v : ℕ). Draws places (suc n) v ds (x ∷ xs)) i D));
-          none = λ q. absurd (let z : ◌≡◌ {A = ℕ} 0 1 = cc in omega arith);
+          none = λ q. cc;
         }
 
     grown : 0 < count → appended K chart count 1 x ≡ (Some count, set chart (count - 1) (longer 1 (place K chart (count - 1)))) → same K x xs ≡ true → OneMore places n xs x (Some count, set chart (count - 1) (longer 1 (place K chart (count - 1))))
@@ -126,7 +126,7 @@ module _ {X : Type 0} (K : Kind X) where
     over l b =
         let counts = rows_as x xs false b ∙ ap (λ (v : ℕ). v + 1) d.counts in
         let size = d.size in
-        record { room = λ m q. absurd (let z : ◌≡◌ {A = ℕ} 0 1 = cc in omega arith); none = λ _. lt-leb _ _ (omega arith) }
+        record { room = λ m q. cc; none = λ _. lt-leb _ _ (omega arith) }
 
     pub one_more : n + 1 ≤ 2 ^ 48 → OneMore places n xs x (appended K chart count 1 x)
     one_more early =

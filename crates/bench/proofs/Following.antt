@@ -102,22 +102,22 @@ module _ (s : Start) (host : ℕ → ℕ) (places : Places) where
 
       tracks_tick : (u : Option ℕ) (v : Option ℕ) → pinned.0 ≡ u → moded.0 ≡ v → Tracks n here (then_held t.0 (placed u v (both pinned.1 moded.1)))
       tracks_tick None v ep eq = record {
-        on = λ w e. absurd (let z : ◌≡◌ {A = ℕ} 0 1 = cc in omega arith);
+        on = λ w e. cc;
         stop = λ f e. (let q : NoPinPlace ≡ f = cc in next_by false (leb (rows mode_kind (t.1.mode ∷ F.mode_list)) places.modes) (more_pins.none ep) refl ∙ ap (λ (g : Fault). Err g) q);
       }
       tracks_tick (Some a) None ep eq = record {
-        on = λ w e. absurd (let z : ◌≡◌ {A = ℕ} 0 1 = cc in omega arith);
+        on = λ w e. cc;
         stop = λ f e. (let q : NoModePlace ≡ f = cc in next_by true false (more_pins.room a ep).0 (more_modes.none eq) ∙ ap (λ (g : Fault). Err g) q);
       }
       tracks_tick (Some a) (Some b) ep eq = record {
         on = λ w e. (let q : ◌≡◌ {A = Held × Charts} (held t.0 (counted a b), both pinned.1 moded.1) w = cc in subst (λ (v : Held × Charts). Follows v.0 v.1 (suc n)) q (follows_on a b ep eq));
-        stop = λ f e. absurd (let z : ◌≡◌ {A = ℕ} 0 1 = cc in omega arith);
+        stop = λ f e. cc;
       }
 
     tracks_by : (r : Result (Moment × Samples) Fault) → ticked s.image host h.moment ≡ r → Tracks n here (bind r (λ t. then_held t.0 (charted 1 t.1 h.stretches c)))
     tracks_by (Ok t) et = tracks_tick t et (pinned t et).0 (moded t et).0 refl refl
     tracks_by (Err g) et = record {
-      on = λ w e. absurd (let z : ◌≡◌ {A = ℕ} 0 1 = cc in omega arith);
+      on = λ w e. cc;
       stop = λ f e. (let q : g ≡ f = cc in ap (λ (r : Result (Moment × Samples) Fault). bind r (λ v. in_places places (grown here v))) et ∙ ap (λ (v : Fault). Err v) q);
     }
 

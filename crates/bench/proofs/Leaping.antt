@@ -1,5 +1,5 @@
 -- A leap is its ticks, one by one.
-use Rattle.std.proofs.Common.{◌≡◌, ℕ, zero, suc, ◌+◌, ◌-◌, ◌^◌, ◌<◌, ◌≤◌, List, IfOk, Some, None, Ok, Err, Option, Result, sym, refl, ap, ◌∙◌, subst, ap₂, inl, inr, arith}
+use Rattle.std.proofs.Common.{◌≡◌, ℕ, zero, suc, ◌+◌, ◌-◌, ◌^◌, ◌<◌, ◌≤◌, max, List, IfOk, Some, None, Ok, Err, Option, Result, sym, refl, ap, ◌∙◌, subst, ap₂, inl, inr, arith}
 use Rattle.std.proofs.lemmas.Bool.{eq-eqb, ne_eqb, cases_lt}
 use Rattle.faults.specs.declared.Fault.{Fault}
 use Rattle.recorder.specs.declared.stretch.Stretch.{Stretch}
@@ -145,7 +145,7 @@ module _ (image : List ℕ) (host : ℕ → ℕ) (h : Held) (c : Charts) (w k : 
       first pos ∙ ap (then_held (moment (moved 1 m) (t + 1))) (ap₂ (λ (u v : Option ℕ). placed u v (charts_at 1)) ep eq ∙ stays (pins k).0 (modes k).0 e)
     where
       stays : (u v : Option ℕ) → placed u v (charts_at k) ≡ Err f → placed u v (charts_at 1) ≡ Err f
-      stays (Some a) (Some b) e = absurd (let z : ◌≡◌ {A = ℕ} 0 1 = cc in omega arith)
+      stays (Some a) (Some b) e = cc
       stays (Some a) None e = e
       stays None v e = e
 
@@ -208,7 +208,7 @@ module _ (image : List ℕ) (host : ℕ → ℕ) (grant : ℕ) (h₀ : Held) (c�
 
       leaps_on : (o : Result (Stretches × Charts) Fault) → charted_there ≡ o → (s : Held × Charts) → then_held landing o ≡ Ok s → Ready s.0 s.1 →
           Running image host grant h₀ c₀ (done + k) s.0 s.1 × (s.0.moment.tick ≡ h.moment.tick + k) × (0 < k) × (done + k ≤ grant) × (h.moment.tick + k ≤ n.until)
-      leaps_on (Err f) e s q ready = absurd (let z : ◌≡◌ {A = ℕ} 0 1 = cc in omega arith)
+      leaps_on (Err f) e s q ready = cc
       leaps_on (Ok v) e s q ready =
           let same : ◌≡◌ {A = Held × Charts} (held landing v.0, v.1) s = cc in
           let within = far.granted in
@@ -228,7 +228,7 @@ module _ (image : List ℕ) (host : ℕ → ℕ) (grant : ℕ) (h₀ : Held) (c�
           )
 
       leaps_stop : (o : Result (Stretches × Charts) Fault) → charted_there ≡ o → (f : Fault) → then_held landing o ≡ Err f → answer done (Some f) h c ≡ ran image host grant 0 h₀ c₀
-      leaps_stop (Ok v) e f q = absurd (let z : ◌≡◌ {A = ℕ} 0 1 = cc in omega arith)
+      leaps_stop (Ok v) e f q = cc
       leaps_stop (Err g) e f q =
           let same : g ≡ f = cc in
           running_stop image host grant h₀ c₀ done h c r f below
@@ -240,7 +240,7 @@ module _ (image : List ℕ) (host : ℕ → ℕ) (grant : ℕ) (h₀ : Held) (c�
   moves : (o : Result Machine Fault) → begun h.moment.machine image n.word ≡ o → Reaches n (grant - done) h.moment.tick o → IfOk o Bounded →
       Moves (bind o (moved_on image n (grant - done) h c)) (reach n (grant - done) h.moment.tick o)
   moves (Err g) e far b = record {
-    on = λ s q. absurd (let z : ◌≡◌ {A = ℕ} 0 1 = cc in omega arith);
+    on = λ s q. cc;
     stop = λ f q. (let same : g ≡ f = cc in
         running_stop image host grant h₀ c₀ done h c r f below
         (sym as_stepped ∙ sym (step_by image n.before n.word h c (Err g) (tick_by image n.before n.word h.moment (Err g) (sym e))) ∙ ap (λ (v : Fault). Err v) same));
@@ -294,7 +294,7 @@ module _ (image : List ℕ) (n : Seen) (most : ℕ) (h : Held) (c : Charts) wher
   advance_faults f e = ap (λ (o : Result Machine Fault). left (bind o (moved_on image n most h c)) (h, c)) e
 
   module _ (m : Machine) (acts : Ok m ≡ begun h.moment.machine image n.word) (k : ℕ) (is : k ≡ stride (moment m h.moment.tick) n most) (ticks : ℕ) (all : ticks ≡ takes k)
-      (x : Samples) (sampled : x ≡ samples_of m n.word) (n' : Stretches) (c' : Charts) where
+      (x : Samples) (sampled : x ≡ samples_of m n.word) (h' : Held) (c' : Charts) where
     abbrev landing_at : ℕ → Moment
     landing_at j = moment (onward image n j m) (h.moment.tick + takes j)
 
@@ -304,15 +304,18 @@ module _ (image : List ℕ) (n : Seen) (most : ℕ) (h : Held) (c : Charts) wher
         ∙ ap (λ (j : ℕ). left (then_held (landing_at j) (charted (takes j) (samples_of m n.word) h.stretches c)) (h, c)) is
         ∙ ap (λ (o : Result Machine Fault). left (bind o (moved_on image n most h c)) (h, c)) acts
 
-    pub advance_stops : (f : Fault) → (Err f, (n', c')) ≡ left (charted ticks x h.stretches c) (h.stretches, c) →
-        ((Err f, (held h.moment n', c')) ≡ left (advanced image n most h c) (h, c)) × (Ready h c → Ready (held h.moment n') c')
-    advance_stops f e = let q = charts_stop h c ticks x (landing_at k) n' c' f e in (q.0 ∙ as_advanced, q.1)
+    pub advance_stops : (f : Fault) → h'.moment ≡ h.moment → (Err f, (h'.stretches, c')) ≡ left (charted ticks x h.stretches c) (h.stretches, c) →
+        ((Err f, (h', c')) ≡ left (advanced image n most h c) (h, c)) × (Ready h c → Ready h' c')
+    advance_stops f at e = let q = charts_stop h c ticks x (landing_at k) h' c' f at e in (q.0 ∙ as_advanced, q.1)
 
-    pub advance_goes : (s : Moment) → s ≡ landing_at k → 0 < ticks → h.moment.tick + ticks ≤ 2 ^ 48 → (Bounded h.moment.machine → Bounded s.machine) → (Ok tt, (n', c')) ≡ left (charted ticks x h.stretches c) (h.stretches, c) →
-        ((Ok tt, (held s n', c')) ≡ left (advanced image n most h c) (h, c)) × (Ready h c → Ready (held s n') c')
+    pub advance_goes : (s : Moment) → s ≡ landing_at k → 0 < ticks → h.moment.tick + ticks ≤ 2 ^ 48 → (Bounded h.moment.machine → Bounded s.machine) → (Ok tt, (h'.stretches, c')) ≡ left (charted ticks x h.stretches c) (h.stretches, c) →
+        ((Ok tt, (held s h'.stretches, c')) ≡ left (advanced image n most h c) (h, c)) × (Ready h c → Ready (held s h'.stretches) c')
     advance_goes s e pos room b q =
-        let t = charts_go h c ticks x s n' c' pos room (ap (λ (v : Moment). v.tick) e ∙ ap (λ (v : ℕ). h.moment.tick + v) (sym all)) q in
+        let t = charts_go h c ticks x s h' c' pos room (ap (λ (v : Moment). v.tick) e ∙ ap (λ (v : ℕ). h.moment.tick + v) (sym all)) q in
         (t.0 ∙ ap (λ (v : Moment). left (then_held v (charted ticks x h.stretches c)) (h, c)) e ∙ as_advanced, t.1 b)
+
+pub takes_max : (k : ℕ) → max k 1 ≡ takes k
+takes_max k = elim (cases_lt 0 k) [ inl h ↦ rw (ne_eqb k 0 (λ e. omega arith)) (omega arith) | inr h ↦ rw (eq-eqb k 0 (omega arith)) (omega arith) ]
 
 pub takes_some : (k : ℕ) → 0 < takes k
 takes_some k = elim (cases_lt 0 k) [ inl h ↦ rw (ne_eqb k 0 (λ e. omega arith)) h | inr h ↦ rw (eq-eqb k 0 (omega arith)) (omega arith) ]

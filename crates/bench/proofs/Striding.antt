@@ -1,11 +1,10 @@
 -- How far a move goes.
-use Rattle.std.proofs.Common.{◌≡◌, ℕ, ◌-◌, min, eqb, [], Some, None, Option, sym, ap, ◌∙◌, arith}
-use Rattle.std.proofs.lemmas.Bool.{cond-true, eq-eqb}
+use Rattle.std.proofs.Common.{◌≡◌, ℕ, ◌-◌, min, [], Some, None, Option, ap, arith}
 use Rattle.machine.specs.declared.state.Machine.{Machine}
-use Rattle.machine.specs.Quiet.{still_for, moved, Span}
+use Rattle.machine.specs.Quiet.{moved, Span}
 use Rattle.bench.specs.declared.held.Moment.{Moment}
 use Rattle.bench.specs.declared.leap.Seen.{Seen}
-use Rattle.bench.specs.Leaps.{cut, stride, Stride}
+use Rattle.bench.specs.Leaps.{cut, Stride}
 
 starts_by : (m : Machine) (o : Option ℕ) → Span m o → moved 0 m ≡ m
 starts_by m None s = let e = s.leaps [] 0 0 tt in cc
@@ -29,17 +28,3 @@ stride_still s n most (Some r) e span = record {
   quiet = λ image j h. (span.longest image n.word).quiet j (omega arith);
   longest = λ image _ g m q. let full : r ≡ min r (min most (n.until - s.tick)) = omega arith in (span.longest image n.word).ends (min r (min most (n.until - s.tick))) (ap (λ (v : ℕ). Some v) full) q;
 }
-
--- where the word has just changed, no tick is taken at once
-pub stride_changed : (s : Moment) (n : Seen) (most : ℕ) → (n.before ≡ n.word → ⊥) → Stride s n most 0
-stride_changed s n most ne = record {
-  granted = omega arith;
-  marked = omega arith;
-  starts = λ h. absurd (omega arith);
-  same = λ h. absurd (omega arith);
-  quiet = λ image j h. absurd (omega arith);
-  longest = λ image e _ _ _. ne e;
-}
-
-pub stride_as : (s : Moment) (n : Seen) (most : ℕ) (o : Option ℕ) → n.before ≡ n.word → o ≡ still_for s.machine → cut o (min most (n.until - s.tick)) ≡ stride s n most
-stride_as s n most o e is = sym (cond-true (eqb n.before n.word) _ _ (eq-eqb _ _ e) ∙ ap (λ (v : Option ℕ). cut v (min most (n.until - s.tick))) (sym is))

@@ -24,7 +24,7 @@ pub record Sees (host : ℕ → ℕ) (t : ℕ) (s : Seen) : Type 0 where
 
 -- the host is asked again only where its mark is reached; without a mark its word stays up to the horizon
 abbrev pub renewed : (ℕ → ℕ) → (ℕ → Option ℕ) → ℕ → Seen → Seen
-renewed host mark t s = cond (nat_lt t s.until) s (seen s.before (host t) (unwrap_or (mark t) (2 ^ 48)))
+renewed host mark t s = cond (nat_lt t s.until) s (record s { word = host t; until = unwrap_or (mark t) (2 ^ 48) })
 
 -- a quiet span, which none does not bound, cut to at most n ticks
 abbrev pub cut : Option ℕ → ℕ → ℕ

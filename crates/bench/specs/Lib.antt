@@ -2,6 +2,7 @@ pub mod Ticks
 pub mod Charting
 pub mod Runs
 pub mod Keeps
+pub mod Benches
 pub mod Leaps
 pub mod Power
 pub mod Model

@@ -4,6 +4,7 @@ ghost use Rattle.bench.specs.Runs.{answer, played, played_all};
 ghost use Rattle.bench.specs.Power.{start, powered_machine, powered, powered_on, fresh};
 ghost use Rattle.bench.specs.Board.{BoardAfter, StandsAfter, Begun};
 
+use crate::bench::Bench;
 use crate::chip::Chip;
 use crate::held::{Call, Held, Moment, Stretches, Way};
 use crate::run::{IMAGE, Run};
@@ -35,17 +36,7 @@ fn power_up(image: &[u8], ram: [u8; RAM]) -> Machine
         parts: Parts {
             registers: Registers::new(),
             memory: Memory { ram },
-            ports: Ports {
-                ra: 0,
-                rb: 0,
-                rc: 0,
-                raio: 0,
-                rbio: 0,
-                rcio: 0,
-                rafunc: 0,
-                rbfunc: 0,
-                pupsel: 0,
-            },
+            ports: Ports::default(),
             timers: Timers::new(),
             buzzer: Buzzer::new(0),
             basic: BasicTimer::new(),
@@ -95,6 +86,31 @@ impl Chip {
         Ok(())
     }
 
+    // A run call, up to its grant: each tick by itself, or all quiet ticks up to the next that is not in one move.
+    pub fn run<P: PinHost>(
+        &mut self,
+        image: &[u8],
+        host: &P,
+        call: Call,
+        pins: &mut [Stretch<PinSample>],
+        modes: &mut [Stretch<Mode>],
+    ) -> Run
+        ensures plays { answer result.ticks result.fault self.new.held (both pins.new modes.new) ≡ played image.now (P.meaning host.now) call.grant self.old.held (both pins.old modes.old) }
+        ensures board { BoardAfter image.now (P.meaning host.now) self.old.held (both pins.old modes.old) call.grant result.ticks result.fault self.new.held (both pins.new modes.new) }
+    {
+        if let Err(fault) = self.held.accept(image, call.grant, pins, modes) {
+            return Run::stopped(0, fault);
+        }
+        let mut bench = Bench {
+            held: self.held,
+            pins,
+            modes,
+        };
+        let run = bench.run(image, host, call);
+        self.held = bench.held;
+        run
+    }
+
     // Runs up to `grant` ticks, each by itself.
     pub fn tick_run<P: PinHost>(
         &mut self,
@@ -107,16 +123,7 @@ impl Chip {
         ensures plays { answer result.ticks result.fault self.new.held (both pins.new modes.new) ≡ played image.now (P.meaning host.now) grant self.old.held (both pins.old modes.old) }
         ensures board { BoardAfter image.now (P.meaning host.now) self.old.held (both pins.old modes.old) grant result.ticks result.fault self.new.held (both pins.new modes.new) }
     {
-        if let Some(fault) = self.held.refusal(image, grant, pins, modes) {
-            return Run {
-                ticks: 0,
-                fault: Some(fault),
-            };
-        }
-        let mut held = self.held;
-        let run = held.run_ticks(image, host, grant, pins, modes);
-        self.held = held;
-        run
+        self.run(image, host, Call::ticks(grant), pins, modes)
     }
 
     // Runs up to `grant` ticks, all quiet ones up to the next that is not in one move.
@@ -131,33 +138,7 @@ impl Chip {
         ensures plays { answer result.ticks result.fault self.new.held (both pins.new modes.new) ≡ played image.now (P.meaning host.now) grant self.old.held (both pins.old modes.old) }
         ensures board { BoardAfter image.now (P.meaning host.now) self.old.held (both pins.old modes.old) grant result.ticks result.fault self.new.held (both pins.new modes.new) }
     {
-        if let Some(fault) = self.held.refusal(image, grant, pins, modes) {
-            return Run {
-                ticks: 0,
-                fault: Some(fault),
-            };
-        }
-        let mut held = self.held;
-        let run = held.run_leaps(image, host, grant, pins, modes);
-        self.held = held;
-        run
-    }
-
-    // A run call, by ticks or by leaps.
-    fn run<P: PinHost>(
-        &mut self,
-        image: &[u8],
-        host: &P,
-        call: Call,
-        pins: &mut [Stretch<PinSample>],
-        modes: &mut [Stretch<Mode>],
-    ) -> Run
-        ensures { answer result.ticks result.fault self.new.held (both pins.new modes.new) ≡ played image.now (P.meaning host.now) call.grant self.old.held (both pins.old modes.old) }
-    {
-        match call.way {
-            Way::Ticks => self.tick_run(image, host, call.grant, pins, modes),
-            Way::Leaps => self.leap_run(image, host, call.grant, pins, modes),
-        }
+        self.run(image, host, Call::leaps(grant), pins, modes)
     }
 
     // Makes run calls one after the other, each with what the one before left, and answers how many ticks they ran in all.

@@ -1,16 +1,12 @@
-ghost use Rattle.std.specs.Prelude.{◌^◌, ◌<◌, ◌≤◌};
-ghost use Rattle.bench.specs.Keeps.{Counts};
+ghost use Rattle.bench.specs.Keeps.{Whole};
 
 use crate::held::Held;
 
-// A chip in a place that the caller holds: its record, with the facts that every chip keeps.
+// A chip in a place that the caller holds: its record, with the facts that every chip keeps. Its tick number is at most 2^48, its
+// prescaler below 2,048, its buzzer's count below 64, it owes at most 16 ticks, and stretches of each chart are counted exactly
+// when its tick number is above 0.
 #[derive(Clone, Copy)]
 pub struct Chip {
     pub held: Held,
-    ghost tick: { held.moment.tick ≤ 2 ^ 48 },
-    ghost prescaler: { held.moment.machine.prescaler < 2048 },
-    ghost buzzer: { held.moment.machine.parts.buzzer.count < 64 },
-    ghost owed: { held.moment.machine.owed ≤ 16 },
-    ghost pins: { Counts held.stretches.pins held.moment.tick },
-    ghost modes: { Counts held.stretches.modes held.moment.tick },
+    ghost whole: { Whole held },
 }

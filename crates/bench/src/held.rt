@@ -1,3 +1,5 @@
+ghost use Rattle.std.specs.Prelude.{◌≡◌};
+
 use machine::state::Machine;
 use recorder::mode::Mode;
 use recorder::pin_sample::PinSample;
@@ -42,4 +44,24 @@ pub enum Way {
 pub struct Call {
     pub way: Way,
     pub grant: u64,
+}
+
+impl Call {
+    pub(crate) fn ticks(grant: u64) -> Call
+        ensures { result ≡ record { way = Way.Ticks; grant = grant } }
+    {
+        Call {
+            way: Way::Ticks,
+            grant,
+        }
+    }
+
+    pub(crate) fn leaps(grant: u64) -> Call
+        ensures { result ≡ record { way = Way.Leaps; grant = grant } }
+    {
+        Call {
+            way: Way::Leaps,
+            grant,
+        }
+    }
 }

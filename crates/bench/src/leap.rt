@@ -3,18 +3,16 @@ ghost use Rattle.bus.specs.Outcomes.{after};
 ghost use Rattle.machine.specs.Tick.{begun};
 ghost use Rattle.machine.specs.Quiet.{Sound};
 ghost use Rattle.bench.specs.Ticks.{moment};
-ghost use Rattle.bench.specs.Charting.{both, left};
-ghost use Rattle.bench.specs.Runs.{answer, ran};
-ghost use Rattle.bench.specs.Keeps.{Bounded, Ready, Whole};
+ghost use Rattle.bench.specs.Charting.{left};
+ghost use Rattle.bench.specs.Benches.{charts_of, state, IsReady, Accepted, Lent, Plays};
+ghost use Rattle.bench.specs.Keeps.{Bounded};
 ghost use Rattle.bench.specs.Leaps.{seen, Sees, renewed, stride, Stride, takes, onward, advanced, reach, Reaches};
 
-use crate::held::{Held, Moment};
+use crate::bench::Bench;
+use crate::held::Moment;
 use crate::run::Run;
 use faults::Fault;
 use hosts::host::{HORIZON, PinHost};
-use recorder::mode::Mode;
-use recorder::pin_sample::PinSample;
-use recorder::stretch::Stretch;
 
 // What a leap run knows of its host at a tick: the word of the tick before, and that of this tick and all before `until`.
 #[derive(Clone, Copy)]
@@ -87,76 +85,45 @@ impl Moment {
     }
 }
 
-// How many ticks a move takes: its quiet ticks, or else one.
-fn ticks_of(quiet: u64) -> u64
-    ensures { result ≡ takes quiet }
-{
-    if quiet == 0 { 1 } else { quiet }
-}
-
-impl Held {
+impl Bench<'_> {
     // One move of a leap run, or a stop, and then nothing changes: the chip acts if it has to, and then all quiet ticks up to
     // `most` and the host's mark are taken at once, or else the one tick. It is played on a copy. Answers how many ticks it took.
-    fn advance(
-        &mut self,
-        image: &[u8],
-        seen: &Seen,
-        most: u64,
-        pins: &mut [Stretch<PinSample>],
-        modes: &mut [Stretch<Mode>],
-    ) -> Result<u64, Fault>
+    fn advance(&mut self, image: &[u8], seen: &Seen, most: u64) -> Result<u64, Fault>
         requires some { 0 < most }
-        requires time { self.old.moment.tick + most ≤ 2 ^ 48 }
-        requires ready { Ready self.old (both pins.old modes.old) }
-        ensures value { (after result tt, (self.new, both pins.new modes.new)) ≡ left (advanced image.now seen.now most self.old (both pins.old modes.old)) (self.old, both pins.old modes.old) }
-        ensures takes { IfOk result (λ n. n ≡ reach seen.now most self.old.moment.tick (begun self.old.moment.machine image.now seen.now.word)) }
-        ensures longest { Reaches seen.now most self.old.moment.tick (begun self.old.moment.machine image.now seen.now.word) }
-        ensures bounded { IfOk (begun self.old.moment.machine image.now seen.now.word) Bounded }
-        ensures ready { Ready self.new (both pins.new modes.new) }
+        requires accepted { Accepted self.old most }
+        ensures value { (after result tt, state self.new) ≡ left (advanced image.now seen.now most self.old.held (charts_of self.old)) (state self.old) }
+        ensures takes { IfOk result (λ n. n ≡ reach seen.now most self.old.held.moment.tick (begun self.old.held.moment.machine image.now seen.now.word)) }
+        ensures longest { Reaches seen.now most self.old.held.moment.tick (begun self.old.held.moment.machine image.now seen.now.word) }
+        ensures bounded { IfOk (begun self.old.held.moment.machine image.now seen.now.word) Bounded }
+        ensures ready { IsReady self.new }
+        ensures lent { Lent self.old self.new }
     {
-        let mut next = self.moment;
+        let mut next = self.held.moment;
         next.machine.begin(image, seen.word)?;
         let samples = next.samples(seen.word);
         let quiet = next.stride(seen, most);
-        let ticks = ticks_of(quiet);
-        self.stretches.add(ticks, samples, pins, modes)?;
+        let ticks = quiet.max(1);
+        self.add(ticks, samples)?;
         next.go_on(image, seen, quiet);
-        self.moment = next;
+        self.held.moment = next;
         Ok(ticks)
     }
 
     // Runs an accepted grant, each move as far as the chip and its host allow.
-    pub(crate) fn run_leaps<P: PinHost>(
-        &mut self,
-        image: &[u8],
-        host: &P,
-        grant: u64,
-        pins: &mut [Stretch<PinSample>],
-        modes: &mut [Stretch<Mode>],
-    ) -> Run
-        requires time { self.old.moment.tick + grant ≤ 2 ^ 48 }
-        requires ready { Ready self.old (both pins.old modes.old) }
-        ensures plays { answer result.ticks result.fault self.new (both pins.new modes.new) ≡ ran image.now (P.meaning host.now) grant 0 self.old (both pins.old modes.old) }
-        ensures whole { Whole self.new }
+    pub(crate) fn run_leaps<P: PinHost>(&mut self, image: &[u8], host: &P, grant: u64) -> Run
+        requires { Accepted self.old grant }
+        ensures { Plays image.now (P.meaning host.now) grant self.old result self.new }
     {
-        let mut seen = Seen::new(host, self.moment.tick);
+        let mut seen = Seen::new(host, self.held.moment.tick);
         let mut done = 0;
         while done < grant {
-            seen.renew(host, self.moment.tick);
-            match self.advance(image, &seen, grant - done, pins, modes) {
+            seen.renew(host, self.held.moment.tick);
+            match self.advance(image, &seen, grant - done) {
                 Ok(ticks) => done += ticks,
-                Err(fault) => {
-                    return Run {
-                        ticks: done,
-                        fault: Some(fault),
-                    };
-                }
+                Err(fault) => return Run::stopped(done, fault),
             }
             seen.before = seen.word;
         }
-        Run {
-            ticks: grant,
-            fault: None,
-        }
+        Run::whole(grant)
     }
 }

@@ -1,9 +1,11 @@
-ghost use Rattle.std.specs.Prelude.{◌≡◌, ◌+◌, ◌^◌, ◌≤◌};
+ghost use Rattle.std.specs.Prelude.{◌≡◌, ◌^◌, ◌≤◌, Ok, cond};
+ghost use Rattle.std.specs.Result.{result_err};
 ghost use Rattle.bench.specs.Charting.{both};
-ghost use Rattle.bench.specs.Runs.{answer, ran, refused};
-ghost use Rattle.bench.specs.Keeps.{Ready, Whole};
+ghost use Rattle.bench.specs.Benches.{Accepted, Plays};
+ghost use Rattle.bench.specs.Runs.{refused};
 
-use crate::held::Held;
+use crate::bench::Bench;
+use crate::held::{Call, Held, Way};
 use faults::Fault;
 use hosts::host::{HORIZON, PinHost};
 use recorder::append::fits;
@@ -24,64 +26,82 @@ pub struct Run {
     pub fault: Option<Fault>,
 }
 
+impl Run {
+    // A whole grant.
+    pub(crate) fn whole(grant: u64) -> Run
+        ensures { result ≡ record { ticks = grant; fault = None } }
+    {
+        Run {
+            ticks: grant,
+            fault: None,
+        }
+    }
+
+    // The ticks before a stop, or none before a refusal.
+    pub(crate) fn stopped(ticks: u64, fault: Fault) -> Run
+        ensures { result ≡ record { ticks = ticks; fault = Some fault } }
+    {
+        Run {
+            ticks,
+            fault: Some(fault),
+        }
+    }
+}
+
+// A test of a run call, with the fault where it fails.
+fn test(passed: bool, fault: Fault) -> Result<(), Fault>
+    ensures { result ≡ cond passed (Ok tt) (Err fault) }
+{
+    if passed { Ok(()) } else { Err(fault) }
+}
+
 impl Held {
-    // The first test that a run call fails.
-    pub(crate) fn refusal(
+    // Accepts a run call, or refuses it for the first test that it fails.
+    pub(crate) fn accept(
         &self,
         image: &[u8],
         grant: u64,
         pins: &[Stretch<PinSample>],
         modes: &[Stretch<Mode>],
-    ) -> Option<Fault>
+    ) -> Result<(), Fault>
         requires { self.now.moment.tick ≤ 2 ^ 48 }
-        ensures { result ≡ refused image.now grant self.now (both pins.now modes.now) }
+        ensures { result_err result ≡ refused image.now grant self.now (both pins.now modes.now) }
     {
-        if image.len() != IMAGE {
-            return Some(Fault::ImageSize);
+        let tick = self.moment.tick;
+        let counted = self.stretches;
+        test(image.len() == IMAGE, Fault::ImageSize)?;
+        test(grant <= GRANT, Fault::GrantTooLarge)?;
+        test(tick + grant <= HORIZON, Fault::ChipSpent)?;
+        test(fits(pins, counted.pins, tick), Fault::PinChartUnfit)?;
+        test(fits(modes, counted.modes, tick), Fault::ModeChartUnfit)
+    }
+}
+
+impl Bench<'_> {
+    // Runs an accepted call.
+    pub(crate) fn run<P: PinHost>(&mut self, image: &[u8], host: &P, call: Call) -> Run
+        requires { Accepted self.old call.grant }
+        ensures { Plays image.now (P.meaning host.now) call.grant self.old result self.new }
+    {
+        match call.way {
+            Way::Ticks => self.run_ticks(image, host, call.grant),
+            Way::Leaps => self.run_leaps(image, host, call.grant),
         }
-        if grant > GRANT {
-            return Some(Fault::GrantTooLarge);
-        }
-        if self.moment.tick + grant > HORIZON {
-            return Some(Fault::ChipSpent);
-        }
-        if !fits(pins, self.stretches.pins, self.moment.tick) {
-            return Some(Fault::PinChartUnfit);
-        }
-        if !fits(modes, self.stretches.modes, self.moment.tick) {
-            return Some(Fault::ModeChartUnfit);
-        }
-        None
     }
 
     // Plays each tick of an accepted grant by itself.
-    pub(crate) fn run_ticks<P: PinHost>(
-        &mut self,
-        image: &[u8],
-        host: &P,
-        grant: u64,
-        pins: &mut [Stretch<PinSample>],
-        modes: &mut [Stretch<Mode>],
-    ) -> Run
-        requires time { self.old.moment.tick + grant ≤ 2 ^ 48 }
-        requires ready { Ready self.old (both pins.old modes.old) }
-        ensures plays { answer result.ticks result.fault self.new (both pins.new modes.new) ≡ ran image.now (P.meaning host.now) grant 0 self.old (both pins.old modes.old) }
-        ensures whole { Whole self.new }
+    fn run_ticks<P: PinHost>(&mut self, image: &[u8], host: &P, grant: u64) -> Run
+        requires { Accepted self.old grant }
+        ensures { Plays image.now (P.meaning host.now) grant self.old result self.new }
     {
-        let mut before = host.levels(self.moment.tick.saturating_sub(1));
+        let mut before = host.levels(self.held.moment.tick.saturating_sub(1));
         for done in 0..grant {
-            let word = host.levels(self.moment.tick);
-            if let Err(fault) = self.step(image, before, word, pins, modes) {
-                return Run {
-                    ticks: done,
-                    fault: Some(fault),
-                };
+            let word = host.levels(self.held.moment.tick);
+            if let Err(fault) = self.step(image, before, word) {
+                return Run::stopped(done, fault);
             }
             before = word;
         }
-        Run {
-            ticks: grant,
-            fault: None,
-        }
+        Run::whole(grant)
     }
 }

@@ -1,16 +1,15 @@
 ghost use Rattle.std.specs.Prelude.{◌≡◌, ◌^◌, ◌<◌, ◌≤◌, OnOk};
 ghost use Rattle.bus.specs.Outcomes.{outcome};
 ghost use Rattle.bench.specs.Ticks.{samples_of, tick_between};
-ghost use Rattle.bench.specs.Charting.{both, charted, left};
+ghost use Rattle.bench.specs.Charting.{charted, left};
+ghost use Rattle.bench.specs.Benches.{charts_of, state, IsReady, Lent};
 ghost use Rattle.bench.specs.Runs.{step_between};
-ghost use Rattle.bench.specs.Keeps.{Bounded, Ready};
+ghost use Rattle.bench.specs.Keeps.{Bounded};
 
-use crate::held::{Held, Moment, Samples, Stretches};
+use crate::bench::Bench;
+use crate::held::{Moment, Samples};
 use faults::Fault;
 use recorder::append::{append, has_place};
-use recorder::mode::Mode;
-use recorder::pin_sample::PinSample;
-use recorder::stretch::Stretch;
 
 impl Moment {
     // The samples of a tick before the host's word.
@@ -37,47 +36,35 @@ impl Moment {
     }
 }
 
-impl Stretches {
+impl Bench<'_> {
     // Adds `ticks` ticks of the samples to both charts. A stop where one has no place, the pin chart's first, and then nothing changes.
-    pub(crate) fn add(
-        &mut self,
-        ticks: u64,
-        samples: Samples,
-        pins: &mut [Stretch<PinSample>],
-        modes: &mut [Stretch<Mode>],
-    ) -> Result<(), Fault>
-        ensures { (result, (self.new, both pins.new modes.new)) ≡ left (charted ticks samples self.old (both pins.old modes.old)) (self.old, both pins.old modes.old) }
+    pub(crate) fn add(&mut self, ticks: u64, samples: Samples) -> Result<(), Fault>
+        ensures value { (result, (self.new.held.stretches, charts_of self.new)) ≡ left (charted ticks samples self.old.held.stretches (charts_of self.old)) (self.old.held.stretches, charts_of self.old) }
+        ensures moment { self.new.held.moment ≡ self.old.held.moment }
+        ensures lent { Lent self.old self.new }
     {
-        if !has_place(pins, self.pins, ticks, &samples.pins) {
+        let pins = &mut *self.pins;
+        let modes = &mut *self.modes;
+        let counts = &mut self.held.stretches;
+        if !has_place(pins, counts.pins, ticks, &samples.pins) {
             return Err(Fault::NoPinPlace);
         }
-        if !has_place(modes, self.modes, ticks, &samples.mode) {
-            return Err(Fault::NoModePlace);
-        }
-        self.pins = append(pins, self.pins, ticks, samples.pins).unwrap();
-        self.modes = append(modes, self.modes, ticks, samples.mode).unwrap();
+        counts.modes = append(modes, counts.modes, ticks, samples.mode).ok_or(Fault::NoModePlace)?;
+        counts.pins = append(pins, counts.pins, ticks, samples.pins).unwrap();
         Ok(())
     }
-}
 
-impl Held {
     // Plays a tick and charts it, or stops, and then nothing changes.
-    pub(crate) fn step(
-        &mut self,
-        image: &[u8],
-        before: u16,
-        word: u16,
-        pins: &mut [Stretch<PinSample>],
-        modes: &mut [Stretch<Mode>],
-    ) -> Result<(), Fault>
-        requires { self.old.moment.tick < 2 ^ 48 }
-        ensures value { (result, (self.new, both pins.new modes.new)) ≡ left (step_between image.now before word self.old (both pins.old modes.old)) (self.old, both pins.old modes.old) }
-        ensures ready { Ready self.old (both pins.old modes.old) → Ready self.new (both pins.new modes.new) }
+    pub(crate) fn step(&mut self, image: &[u8], before: u16, word: u16) -> Result<(), Fault>
+        requires { self.old.held.moment.tick < 2 ^ 48 }
+        ensures value { (result, state self.new) ≡ left (step_between image.now before word self.old.held (charts_of self.old)) (state self.old) }
+        ensures ready { IsReady self.old → IsReady self.new }
+        ensures lent { Lent self.old self.new }
     {
-        let mut next = self.moment;
+        let mut next = self.held.moment;
         let samples = next.tick(image, before, word)?;
-        self.stretches.add(1, samples, pins, modes)?;
-        self.moment = next;
+        self.add(1, samples)?;
+        self.held.moment = next;
         Ok(())
     }
 }

@@ -9,9 +9,9 @@ use Rattle.bench.proofs.chip.Chip.play.Goals as goal
 
 pub overflow_add-total : goal.overflow_add-total
 overflow_add-total g c =
-    let up = played_tick _ _ _ _ _ _ _ _ _ c.run-total.ensures in
+    let up = played_tick _ _ _ _ _ _ _ _ _ c.run-total.ensures.plays in
     let at = c.loop-call.invariant.1 in
-    let most = c.run-total.new.self.tick in
+    let most = c.run-total.new.self.whole.tick in
     omega arith
 
 pub loop-call-preserved : goal.loop-call-preserved
@@ -20,7 +20,7 @@ loop-call-preserved g c =
     let host = g.P.PinHost.meaning c.args.host.now in
     let F : List Call → _ = λ ks. played_all image host ks c.loop-call.total c.loop-call.self.held (both c.loop-call.pins c.loop-call.modes) in
     let none : Call = record { way = Ticks; grant = 0 } in
-    let e = c.run-total.ensures in
+    let e = c.run-total.ensures.plays in
     let up = played_tick _ _ _ _ _ _ _ _ _ e in
     let at = c.loop-call.invariant.1 in
     (sym (at_drop_more F c.args.calls.now c.loop-call.call-index none c.loop-call-test.true ∙ played_more image host _ _ _ _ _ _ _ _ _ e) ∙ c.loop-call.invariant.0, omega arith)

@@ -1,0 +1,16 @@
+use Rattle.std.proofs.Common.{◌-◌, ◌≤◌}
+use Rattle.bench.specs.Benches.{charts_of, Lent}
+use Rattle.bench.specs.Leaps.{Sees}
+use Rattle.bench.proofs.Running.{Running}
+use Rattle.bench.proofs.bench.Bench.run_leaps.Given as goal
+
+abbrev pub invariant-loop-done : goal.invariant-loop-done
+invariant-loop-done g l = record {
+  running : Running l.image (g.P.PinHost.meaning l.host) l.grant l.initial.self.held (charts_of l.initial.self) l.done l.self.held (charts_of l.self);
+  sees : Sees (g.P.PinHost.meaning l.host) l.self.held.moment.tick l.seen;
+  within : l.done ≤ l.grant;
+  lent : Lent l.initial.self l.self;
+}
+
+abbrev pub decreases-loop-done : goal.decreases-loop-done
+decreases-loop-done g l = l.grant - l.done
