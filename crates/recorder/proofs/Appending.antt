@@ -1,8 +1,7 @@
 -- What `appended` is in each case, and that ticks of one sample add up.
 use Rattle.std.proofs.Common.{◌≡◌, ℕ, zero, suc, ◌+◌, ◌-◌, ◌^◌, ◌<◌, ◌≤◌, Bool, true, false, cond, ◌&&◌, ◌||◌, ◌⊎◌, eqb, ltb, leb, List, length, set, slice_range, is_some, Some, None, Option, sym, refl, ap, ◌∙◌, subst, inl, inr, add_assoc, arith, length-set}
-use mathlib.Core.Bool.{false≢true}
 use Rattle.std.proofs.lemmas.List.{get_or-set_same, get_or-take, set-set}
-use Rattle.std.proofs.lemmas.Bool.{ltb-true, leb-true, eqb-true, lt-ltb, le-ltb, le-leb, eq-eqb, ne_eqb, and_parts, and_from, cases_Bool, cases_lt}
+use Rattle.std.proofs.lemmas.Bool.{ltb-true, leb-true, eqb-true, lt-ltb, le-ltb, le-leb, eq-eqb, ne_eqb, and_parts, and_from, or_cases, cases_Bool, cases_lt}
 use Rattle.std.proofs.lemmas.Bool.Decides.{nat_tests}
 use Rattle.recorder.specs.declared.stretch.Stretch.{Stretch}
 use Rattle.recorder.specs.Kinds.{Kind}
@@ -228,7 +227,7 @@ module _ {X : Type 0} (K : Kind X) where
       given : {m : ℕ} {cs' : List (Stretch X)} → ◌≡◌ {A = Answer X} (Some m, cs') (None, ds) → (appended K cs n 1 x ≡ (None, cs)) × (ds ≡ cs)
       given {m} p =
           let o : Some m ≡ None = ap (λ (a : Answer X). a.0) p in
-          absurd (let z : ◌≡◌ {A = ℕ} 0 1 = cc in omega arith)
+          absurd cc
 
   -- n ticks at once are one tick n times
   pub one_by_one_lem : (cs : List (Stretch X)) (n k : ℕ) (x : X) → end_of K cs n + k < 2 ^ 64 → appended K cs n k x ≡ one_by_one K cs n k x
@@ -241,14 +240,16 @@ module _ {X : Type 0} (K : Kind X) where
   pub fit_from : (cs : List (Stretch X)) (n t : ℕ) → fitting K cs n t ≡ true → (0 < t → 0 < n) → Fit K cs n t
   fit_from cs n t e some =
       let p = and_parts (leb n (length cs)) _ e in
-      record { places = leb-true _ _ p.0; ends = elim (cases_lt 0 n) [ inl h ↦ eqb-true _ _ (or_else (eqb n 0) _ p.1 (ne_eqb n 0 (λ z. omega arith))) | inr h ↦ rw (eq-eqb n 0 (omega arith)) (none h) ] }
+      record {
+        places = leb-true _ _ p.0;
+        ends = elim (or_cases (eqb n 0) (eqb (end_of K cs n) t) p.1) [
+          | inl z ↦ rw z (none (eqb-true n 0 z))
+          | inr h ↦ eqb-true _ _ h
+        ];
+      }
     where
-      or_else : (a b : Bool) → (a || b) ≡ true → a ≡ false → b ≡ true
-      or_else true b p q = absurd (false≢true (sym q))
-      or_else false b p q = p
-
-      none : n ≤ 0 → 0 ≡ t
-      none h = elim (cases_lt 0 t) [ inl l ↦ absurd (let z = some l in omega arith) | inr l ↦ omega arith ]
+      none : n ≡ 0 → 0 ≡ t
+      none z = elim (cases_lt 0 t) [ inl l ↦ absurd (omega (arith, some l)) | inr l ↦ omega arith ]
 
   -- whether there is a place for some ticks, and which, is the same for any number of them
   pub same_place : (cs : List (Stretch X)) (n j k : ℕ) (x : X) → n ≤ length cs → 0 < j → 0 < k → end_of K cs n + j < 2 ^ 64 → end_of K cs n + k < 2 ^ 64 → (appended K cs n j x).0 ≡ (appended K cs n k x).0
@@ -289,7 +290,7 @@ module _ {X : Type 0} (K : Kind X) where
       ]
     where
       refused_not : ◌≡◌ {A = Answer X} (None, cs) (Some m, ds) → Placed cs k t m ds
-      refused_not p = let o : None ≡ Some m = ap (λ (a : Answer X). a.0) p in absurd (let z : ◌≡◌ {A = ℕ} 0 1 = cc in omega arith)
+      refused_not p = let o : None ≡ Some m = ap (λ (a : Answer X). a.0) p in absurd cc
 
       to : {i : ℕ} {bs : List (Stretch X)} → ◌≡◌ {A = Answer X} (Some i, bs) (Some m, ds) → Placed cs k t i bs → Placed cs k t m ds
       to {i} {bs} p h =

@@ -184,7 +184,7 @@ module _ {X : Type 0} (K : Kind X) (s : ℕ → X) where
       refused : ◌≡◌ {A = Option ℕ × List (Stretch X)} (None, cs) (Some m, cs') → Filled cs' m (t + k)
       refused p =
           let o : None ≡ Some m = ap (λ (a : Option ℕ × List (Stretch X)). a.0) p in
-          absurd (let z : ◌≡◌ {A = ℕ} 0 1 = cc in omega arith)
+          absurd cc
 
   filled : {cs : List (Stretch X)} {n t : ℕ} → Recorded K s cs n t → Filled cs n t
   filled (began cs) = record {

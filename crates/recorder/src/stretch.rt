@@ -1,4 +1,5 @@
-ghost use Rattle.std.specs.Prelude.{◌≡◌, ◌+◌, ◌^◌, nat_lt, if◌then◌else◌, Some, None};
+ghost use Rattle.std.specs.Prelude.{◌≡◌, ◌^◌, nat_lt, if◌then◌else◌, Some, None};
+ghost use Rattle.recorder.specs.Charts.{end};
 ghost use Rattle.recorder.specs.Kinds.{Kind, Script};
 
 use arrayvec::ArrayVec;
@@ -14,7 +15,7 @@ pub struct Stretch<S> {
 impl<S> Stretch<S> {
     // The tick after its last, where 64 bits hold it.
     pub(crate) fn end(&self) -> Option<u64>
-        ensures { result ≡ (if nat_lt (self.now.offset + self.now.length) (2 ^ 64) then Some (self.now.offset + self.now.length) else None) }
+        ensures { result ≡ (if nat_lt (end self.now) (2 ^ 64) then Some (end self.now) else None) }
     {
         self.offset.checked_add(self.length)
     }
