@@ -1,5 +1,5 @@
 ghost use Rattle.std.specs.Prelude.{◌≡◌, ◌+◌, ◌%◌, ◌≤◌, Bool};
-ghost use Rattle.counters.specs.Timers.{timer, source0, source1, drive0, drive1, driven, pulses, timer_ticked, timer_moved, timer_still, timer_set, of0, of1, timers_reset, timers_ticked, timers_moved, timers_still};
+ghost use Rattle.counters.specs.Timers.{timer, counts, source0, source1, drive0, drive1, pulses, timer_ticked, timer_moved, timer_still, timer_set, of0, of1, timers_reset, timers_ticked, timers_moved, timers_still};
 ghost use Rattle.counters.specs.Quiet.{Longest, TimerQuiet, TimersQuiet};
 
 use crate::count::counted;
@@ -69,15 +69,11 @@ impl Timer {
         }
     }
 
-    // What it counts of a source: nothing unless CN and ST are set.
-    fn driven(&self, source: Source) -> Source
-        ensures { result ≡ driven self.now source }
+    // Whether CN and ST are set.
+    fn is_counting(&self) -> bool
+        ensures { result ≡ counts self.now }
     {
-        if self.control % 4 == 3 {
-            source
-        } else {
-            Source::Held
-        }
+        self.control % 4 == 3
     }
 
     // Counts a pulse if there is one, and tells whether it matched.
@@ -174,25 +170,40 @@ impl Timers {
         }
     }
 
-    // What Timer 0 and Timer 1 count in a mode. Timer 1 may take Timer 0's source.
-    fn sources(&self, mode: Mode) -> (Source, Source)
-        ensures { result ≡ (of0 mode self.now, of1 mode self.now) }
+    // What Timer 0 counts in a mode. It stands beside `source1`: one function that tells both makes a tick slower, since
+    // both sources are then worked out before either is asked.
+    fn source0(&self, mode: Mode) -> Source
+        ensures { result ≡ of0 mode self.now }
     {
-        let [timer0, timer1] = self.pair;
-        let zero = source_of_tm0(timer0.control);
-        let one = source_of_tm1(source_of_tm0(timer0.control), timer1.control);
-        let zero = drive_timer0(mode, zero);
-        let one = drive_timer1(mode, one);
-        (timer0.driven(zero), timer1.driven(one))
+        let [timer, _] = self.pair;
+        if timer.is_counting() {
+            drive_timer0(mode, source_of_tm0(timer.control))
+        } else {
+            Source::Held
+        }
+    }
+
+    // What Timer 1 counts in a mode. It may take Timer 0's source.
+    fn source1(&self, mode: Mode) -> Source
+        ensures { result ≡ of1 mode self.now }
+    {
+        let [zero, timer] = self.pair;
+        if timer.is_counting() {
+            drive_timer1(
+                mode,
+                source_of_tm1(source_of_tm0(zero.control), timer.control),
+            )
+        } else {
+            Source::Held
+        }
     }
 
     // One tick, at the prescaler that it has reached; `rises` tells whether EC0 rises in it.
     pub fn tick(&mut self, mode: Mode, prescaler: u16, rises: bool) -> Matches
         ensures { (self.new, result) ≡ timers_ticked mode prescaler rises self.old }
     {
-        let (source0, source1) = self.sources(mode);
-        let on0 = source0.is_on(prescaler, rises);
-        let on1 = source1.is_on(prescaler, rises);
+        let on0 = self.source0(mode).is_on(prescaler, rises);
+        let on1 = self.source1(mode).is_on(prescaler, rises);
         let timer0 = self.pair[0].count_pulse(on0);
         let timer1 = self.pair[1].count_pulse(on1);
         self.comp = self.comp != timer0;
@@ -203,7 +214,8 @@ impl Timers {
     pub fn run_on(&mut self, mode: Mode, prescaler: u16, ticks: u64)
         ensures { self.new ≡ timers_moved mode prescaler ticks self.old }
     {
-        let (source0, source1) = self.sources(mode);
+        let source0 = self.source0(mode);
+        let source1 = self.source1(mode);
         self.pair[0].run_on(source0, prescaler, ticks);
         self.pair[1].run_on(source1, prescaler, ticks);
     }
@@ -214,7 +226,8 @@ impl Timers {
         ensures longest { Longest result (TimersQuiet mode prescaler self.now) }
         ensures starts { timers_moved mode prescaler 0 self.now ≡ self.now }
     {
-        let (source0, source1) = self.sources(mode);
+        let source0 = self.source0(mode);
+        let source1 = self.source1(mode);
         let [timer0, timer1] = self.pair;
         fewer_ticks(
             timer0.still(source0, prescaler),
