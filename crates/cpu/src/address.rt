@@ -2,7 +2,6 @@ ghost use Rattle.std.specs.Prelude.{◌≡◌};
 ghost use Rattle.cpu.specs.State.{advanced, jumped, pushed, pulled, direct_of};
 
 use crate::registers::Registers;
-use crate::sum::BYTE;
 
 impl Registers {
     // The address in PC, which then moves on by 1.
@@ -42,10 +41,7 @@ impl Registers {
     pub fn direct(&self, byte: u8) -> u16
         ensures { result ≡ direct_of self.now byte }
     {
-        if self.flags.g {
-            BYTE + byte as u16
-        } else {
-            byte as u16
-        }
+        let page = u8::from(self.flags.g);
+        u16::from_be_bytes([page, byte])
     }
 }

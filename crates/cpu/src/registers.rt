@@ -177,7 +177,7 @@ impl Registers {
         }
     }
 
-    // Takes the byte that POP pulled. POP of A, X or Y sets no flag.
+    // Takes the byte that POP pulled. POP of A, X or Y sets no flag. Not lent as X and Y are, since PSW is no byte of its own.
     pub fn restore(&mut self, what: Saved, byte: u8)
         ensures { self.new ≡ restored self.old what byte }
     {

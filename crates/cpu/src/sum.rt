@@ -4,7 +4,7 @@ ghost use Rattle.cpu.specs.Effects.{added};
 // A byte from this on is negative.
 pub(crate) const SIGN: u8 = 0x80;
 // Bytes count modulo 256.
-pub(crate) const BYTE: u16 = 256;
+const BYTE: u16 = 256;
 // Their low four bits count modulo 16.
 const NIBBLE: u8 = 16;
 

@@ -1,5 +1,5 @@
 -- Interrupt requests and enables.
-use Rattle.std.specs.Prelude.{ℕ, ◌-◌, ◌^◌, Bool, true, false, cond, not, Option, List, [], ◌∷◌, find, ◌==◌, bit_and, bit_or}
+use Rattle.std.specs.Prelude.{ℕ, ◌-◌, ◌^◌, Bool, true, false, cond, not, Option, [], ◌∷◌, find, ◌==◌, bit_and, bit_or}
 use Rattle.ports.specs.declared.request.Interrupt.{Interrupt}
 use Rattle.ports.specs.declared.request.Interrupt.TheVariants.{Int0, Int1, Timer0, Timer1, Converter, Watchdog, Basic}
 use Rattle.ports.specs.declared.request.Requests.{Requests}

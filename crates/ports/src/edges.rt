@@ -1,5 +1,6 @@
 ghost use Rattle.std.specs.Prelude.{◌≡◌, ◌<◌, ◌^◌};
-ghost use Rattle.ports.specs.Edges.{selected, pin_edge, ec0_rises, edges_of};
+ghost use Rattle.ports.specs.Ports.{bit_of};
+ghost use Rattle.ports.specs.Edges.{falls, rises, selected, pin_edge, ec0_rises, edges_of};
 
 use crate::bits::has_bit;
 use crate::port::Ports;
@@ -28,30 +29,62 @@ pub struct Edges {
     pub ec0: bool,
 }
 
-// Whether a pair of bits of IEDS selects the edge from one level to the next.
-fn is_selected(pair: u8, before: bool, at: bool) -> bool
-    ensures { result ≡ selected pair before at }
-{
-    let falling = has_bit(pair.into(), 0) && before && !at;
-    let rising = has_bit(pair.into(), 1) && !before && at;
-    falling || rising
+// A pin's levels in the tick before and in a tick.
+#[derive(Clone, Copy)]
+struct Levels {
+    before: bool,
+    at: bool,
 }
 
-// Whether a pin has the edge that a pair of bits of IEDS selects, and is let in.
-fn is_edge(inlet: Inlet, ports: &Ports, pair: u8, before: u16, at: u16) -> bool
-    requires pin { inlet.pin < 16 }
-    requires rbfunc { inlet.rbfunc < 16 }
-    ensures { result ≡ pin_edge (2 ^ inlet.rbfunc) (2 ^ inlet.pin) ports.now pair before at }
-{
-    has_bit(ports.rbfunc.into(), inlet.rbfunc)
-        && is_selected(pair, has_bit(before, inlet.pin), has_bit(at, inlet.pin))
+impl Levels {
+    fn of(pin: u32, before: u16, at: u16) -> Levels
+        requires { pin < 16 }
+        ensures before { result.before ≡ bit_of (2 ^ pin) before }
+        ensures at { result.at ≡ bit_of (2 ^ pin) at }
+    {
+        Levels {
+            before: has_bit(before, pin),
+            at: has_bit(at, pin),
+        }
+    }
+
+    fn is_fall(self) -> bool
+        ensures { result ≡ falls self.before self.at }
+    {
+        self.before && !self.at
+    }
+
+    fn is_rise(self) -> bool
+        ensures { result ≡ rises self.before self.at }
+    {
+        !self.before && self.at
+    }
+
+    // Whether they make an edge that a pair of bits of IEDS selects.
+    fn is_selected(self, pair: u8) -> bool
+        ensures { result ≡ selected pair self.before self.at }
+    {
+        has_bit(pair.into(), 0) && self.is_fall() || has_bit(pair.into(), 1) && self.is_rise()
+    }
+}
+
+impl Inlet {
+    // Whether the pin is let in, and has an edge that a pair of bits of IEDS selects.
+    fn has_edge(self, ports: &Ports, pair: u8, before: u16, at: u16) -> bool
+        requires pin { self.pin < 16 }
+        requires rbfunc { self.rbfunc < 16 }
+        ensures { result ≡ pin_edge (2 ^ self.rbfunc) (2 ^ self.pin) ports.now pair before at }
+    {
+        has_bit(ports.rbfunc.into(), self.rbfunc)
+            && Levels::of(self.pin, before, at).is_selected(pair)
+    }
 }
 
 // EC0 is RA0, while its direction is 0.
 fn is_ec0(ports: &Ports, before: u16, at: u16) -> bool
     ensures { result ≡ ec0_rises ports.now before at }
 {
-    !has_bit(ports.raio.into(), RA0) && !has_bit(before, RA0) && has_bit(at, RA0)
+    !has_bit(ports.raio.into(), RA0) && Levels::of(RA0, before, at).is_rise()
 }
 
 impl Edges {
@@ -60,8 +93,8 @@ impl Edges {
         ensures { result ≡ edges_of ports.now ieds before at }
     {
         Edges {
-            int0: is_edge(INT0, ports, ieds, before, at),
-            int1: is_edge(INT1, ports, ieds >> 2, before, at),
+            int0: INT0.has_edge(ports, ieds, before, at),
+            int1: INT1.has_edge(ports, ieds >> 2, before, at),
             ec0: is_ec0(ports, before, at),
         }
     }
