@@ -1,12 +1,23 @@
 -- Reading digits one by one.
-use Rattle.std.proofs.Common.{◌≡◌, ℕ, ◌+◌, ◌*◌, ◌^◌, ◌<◌, ◌≤◌, Bool, true, false, cond, ◌&&◌, ltb, List, [], ◌∷◌, length, get_or, drop, Some, None, Option, sym, refl, ap, ◌∙◌, subst, mul-le-mul_left, arith, lit<}
+use Rattle.std.proofs.Common.{◌≡◌, ℕ, ◌+◌, ◌*◌, ◌^◌, ◌<◌, ◌≤◌, Bool, true, false, cond, ◌&&◌, ltb, List, [], ◌∷◌, length, Some, None, Option, MatchOption, sym, refl, ap, ◌∙◌, subst, mul-le-mul_left, arith, lit<}
 use native.Mathlib.Nat.{pow-le-pow_right}
+use denote.Param.Members.{Mut}
+use Rattle.std.specs.Borrow.{Bor}
+use Rattle.std.specs.ControlFlow.{continue_value}
+use Rattle.std.specs.declared.ops.ControlFlow.{ControlFlow}
+use Rattle.std.specs.declared.ops.ControlFlow.TheVariants.{Continue, Break}
+use Rattle.std.specs.declared.slice.Iter.{Iter}
+use Rattle.std.specs.Fn.{Called}
+use Rattle.std.specs.Iterator.{Yields, TryFoldTurn, TryFoldsItems}
+use Rattle.std.specs.List.{FoldsTo}
+use Rattle.std.specs.Option.{option_and_then}
 use Rattle.std.specs.Str.Parse.{digits_value_after, digits_value, AllDigits}
 use Rattle.std.specs.Char.{digit_value}
+use Rattle.std.proofs.lemmas.Fn.{fronts}
 use Rattle.std.proofs.lemmas.Int.Digits.{digits_value-lt}
-use Rattle.std.proofs.lemmas.List.{drop_more, drop_all}
-use Rattle.std.proofs.lemmas.Bool.{cond-true, cond-false, lt-ltb, le-ltb, le-leb, and_parts, ltb-true, ltb-false, and_from, and_left, and_right, false≢true}
-use Rattle.recording.specs.Numbers.{digits_in, number_in, under, hex_of}
+use Rattle.std.proofs.lemmas.List.{nil_from_length}
+use Rattle.std.proofs.lemmas.Bool.{cond-true, cond-false, lt-ltb, le-ltb, le-leb, and_parts, ltb-true, ltb-false, false≢true}
+use Rattle.recording.specs.Numbers.{with_digit, digits_in, number_in, under, hex_of}
 
 -- the number with the next digit d
 abbrev next : ℕ → ℕ → ℕ → ℕ
@@ -15,7 +26,7 @@ next base n d = n * base + d
 -- the number that the digits write after those of n, none from 2^64 on
 abbrev pub digits_on : ℕ → ℕ → List ℕ → Option ℕ
 digits_on base n [] = Some n
-digits_on base n (c ∷ cs) = cond (ltb (digit_value c) base && ltb (next base n (digit_value c)) (2 ^ 64)) (digits_on base (next base n (digit_value c)) cs) None
+digits_on base n (c ∷ cs) = option_and_then (λ m. digits_on base m cs) (with_digit base n c)
 
 -- more digits make no number less
 grows : (base n : ℕ) (cs : List ℕ) → 1 ≤ base → n ≤ digits_value_after base n cs
@@ -32,10 +43,15 @@ step true false true w a b p q = sym (cond-false w b None (q refl))
 step true false false w a b p q = refl
 step false y z w a b p q = refl
 
+chosen : (b : Bool) (h : ℕ → Option ℕ) (m : ℕ) → option_and_then h (cond b (Some m) None) ≡ cond b (h m) None
+chosen true h m = refl
+chosen false h m = refl
+
 reads : (base n : ℕ) (cs : List ℕ) → 1 ≤ base → n < 2 ^ 64 → digits_on base n cs ≡ cond (digits_in base cs) (under (2 ^ 64) (Some (digits_value_after base n cs))) None
 reads base n [] h l = sym (cond-true _ _ _ (lt-ltb n (2 ^ 64) l))
 reads base n (c ∷ cs) h l =
-    step (ltb (digit_value c) base) (ltb (next base n (digit_value c)) (2 ^ 64)) (digits_in base cs) (ltb (digits_value_after base (next base n (digit_value c)) cs) (2 ^ 64)) _ _
+    chosen (ltb (digit_value c) base && ltb (next base n (digit_value c)) (2 ^ 64)) (λ m. digits_on base m cs) (next base n (digit_value c))
+    ∙ step (ltb (digit_value c) base) (ltb (next base n (digit_value c)) (2 ^ 64)) (digits_in base cs) (ltb (digits_value_after base (next base n (digit_value c)) cs) (2 ^ 64)) _ _
     (λ e. reads base (next base n (digit_value c)) cs h (ltb-true _ _ e))
     (λ e. le-ltb _ _ (over _ _ (ltb-false _ _ e) (grows base (next base n (digit_value c)) cs h)))
   where
@@ -51,44 +67,37 @@ by_length false z n e = absurd (false≢true e)
 pub read_all : (base : ℕ) (cs : List ℕ) → 1 ≤ base → 0 < length cs → digits_on base 0 cs ≡ under (2 ^ 64) (number_in base cs)
 read_all base cs h s = reads base 0 cs h (omega arith) ∙ by_length (ltb 0 (length cs)) (digits_in base cs) (digits_value base cs) (lt-ltb _ _ s)
 
--- a step of the loop
-read_more : (base n : ℕ) (cs : List ℕ) (i : ℕ) → i < length cs → digit_value (get_or cs i 0) < base → next base n (digit_value (get_or cs i 0)) < 2 ^ 64 → digits_on base n (drop i cs) ≡ digits_on base (next base n (digit_value (get_or cs i 0))) (drop (i + 1) cs)
-read_more base n cs i h d l = rw (drop_more cs i 0 h) (cond-true _ _ _ (and_from _ _ (lt-ltb _ _ d) (lt-ltb _ _ l)))
+-- one digit more, and none
+on_some : (base n m c : ℕ) (cs : List ℕ) → Some m ≡ with_digit base n c → digits_on base n (c ∷ cs) ≡ digits_on base m cs
+on_some base n m c cs e = ap (option_and_then (λ k. digits_on base k cs)) (sym e)
 
-not_below : (a b : ℕ) → (a < b → ⊥) → b ≤ a
-not_below a b h = omega arith
+on_none : (base n c : ℕ) (cs : List ℕ) → None ≡ with_digit base n c → digits_on base n (c ∷ cs) ≡ None
+on_none base n c cs e = ap (option_and_then (λ k. digits_on base k cs)) (sym e)
 
-read_not : (base n : ℕ) (cs : List ℕ) (i : ℕ) → i < length cs → (digit_value (get_or cs i 0) < base → ⊥) → digits_on base n (drop i cs) ≡ None
-read_not base n cs i h d = rw (drop_more cs i 0 h) (cond-false _ _ _ (and_left _ _ (le-ltb _ _ (not_below _ _ d))))
+-- calls of a closure that adds a digit
+module _ {F : Type 0} (E : Type 0) (g : Mut F (ℕ × (Bor ℕ × Unit {0})) (Option ℕ)) (f : F) (base : ℕ) (adds : (n : ℕ) (x : Bor ℕ) (v : Option ℕ) (q : F) → Called g f (n, (x, tt)) v q → (q ≡ f) × (v ≡ with_digit base n x.now)) where
+  abbrev goes_on : Option ℕ → ControlFlow E ℕ → Type 0
+  goes_on v r = v ≡ continue_value r
 
-read_past : (base n : ℕ) (cs : List ℕ) (i : ℕ) → i < length cs → 2 ^ 64 ≤ next base n (digit_value (get_or cs i 0)) → digits_on base n (drop i cs) ≡ None
-read_past base n cs i h l = rw (drop_more cs i 0 h) (cond-false _ _ _ (and_right _ _ (le-ltb _ _ l)))
+  passed : (xs : List (Bor ℕ)) (s t : Iter ℕ) (n a : ℕ) (j : F) → Yields fronts s xs t → FoldsTo {P = F × ℕ} (TryFoldTurn g goes_on) (f, n) xs (j, a) → (j ≡ f) × (digits_on base n s.rest.now ≡ digits_on base a t.rest.now)
+  passed [] s t n a j e d =
+      (sym (ap (λ (p : F × ℕ). p.0) d), ap (λ (i : Iter ℕ). digits_on base n i.rest.now) e ∙ ap (λ (p : F × ℕ). digits_on base p.1 t.rest.now) d)
+  passed (x ∷ xs) s t n a j e d =
+      let m = d.0.1 in
+      let added = adds n x d.1.0 d.0.0 d.1.1 in
+      let on = passed xs e.0 t m a j e.2 (subst (λ (p : F). FoldsTo {P = F × ℕ} (TryFoldTurn g goes_on) (p, m) xs (j, a)) added.0 d.2) in
+      (on.0, ap (digits_on base n) e.1 ∙ on_some base n m x.now e.0.rest.now (sym d.1.2 ∙ added.1) ∙ on.1)
 
-pub read_end : (base n : ℕ) (cs : List ℕ) (i : ℕ) → length cs ≤ i → digits_on base n (drop i cs) ≡ Some n
-read_end base n cs i h = rw (drop_all i cs h)
+  ends : (o : Option (Bor ℕ)) (r : Option ℕ) (t u : Iter ℕ) (a : ℕ) (j : F) → j ≡ f → fronts t o u → MatchOption o (goes_on r (Continue a)) (λ x. (v : Option ℕ) × (h : F) × (e : E) × Called g j (a, (x, tt)) v h × goes_on v (Break e) × (r ≡ None)) → r ≡ digits_on base a t.rest.now
+  ends None r t u a j k e m = m ∙ sym (ap (digits_on base a) (nil_from_length t.rest.now e.0))
+  ends (Some x) r t u a j k e m =
+      let added = adds a x m.0 m.1 (subst (λ (p : F). Called g p (a, (x, tt)) m.0 m.1) k m.3) in
+      m.5 ∙ sym (ap (digits_on base a) e ∙ on_none base a x.now u.rest.now (sym m.4 ∙ added.1))
 
--- what the loop knows of a byte x, its digit d and the sum
-pub turn : (base n : ℕ) (cs : List ℕ) (i x d b e m s : ℕ) → i < length cs → x ≡ get_or cs i 0 → b ≡ base → e ≡ d → (digit_value x < base) × (d ≡ digit_value x) → m ≡ n * b → (m + e < 2 ^ 64) × (s ≡ m + e) → digits_on base n (drop i cs) ≡ digits_on base s (drop (i + 1) cs)
-turn base n cs i x d b e m s h xs bs es ds ms ss =
-    let k : next base n (digit_value (get_or cs i 0)) ≡ m + e = let p = ds.1 in let q = ap digit_value xs in cc in
-    let r = read_more base n cs i h (subst (λ (v : ℕ). digit_value v < base) xs ds.0) (subst (λ (v : ℕ). v < 2 ^ 64) (sym k) ss.0) in
-    let t = ss.1 in
-    cc
-
-pub turn_not : (base n : ℕ) (cs : List ℕ) (i x : ℕ) → i < length cs → x ≡ get_or cs i 0 → (digit_value x < base → ⊥) → digits_on base n (drop i cs) ≡ None
-turn_not base n cs i x h xs d = read_not base n cs i h (λ l. d (subst (λ (v : ℕ). digit_value v < base) (sym xs) l))
-
-pub turn_large : (base n : ℕ) (cs : List ℕ) (i b : ℕ) → i < length cs → b ≡ base → (n * b < 2 ^ 64 → ⊥) → digits_on base n (drop i cs) ≡ None
-turn_large base n cs i b h bs l =
-    read_past base n cs i h (over (n * b) (n * base) (digit_value (get_or cs i 0)) (ap (λ v. n * v) bs) (not_below _ _ l))
-  where
-    over : (a c d : ℕ) → a ≡ c → 2 ^ 64 ≤ a → 2 ^ 64 ≤ c + d
-    over a c d e p = omega arith
-
-pub turn_past : (base n : ℕ) (cs : List ℕ) (i x d b e m : ℕ) → i < length cs → x ≡ get_or cs i 0 → b ≡ base → e ≡ d → d ≡ digit_value x → m ≡ n * b → (m + e < 2 ^ 64 → ⊥) → digits_on base n (drop i cs) ≡ None
-turn_past base n cs i x d b e m h xs bs es ds ms l =
-    let k : m + e ≡ next base n (digit_value (get_or cs i 0)) = let q = ap digit_value xs in cc in
-    read_past base n cs i h (subst (λ (v : ℕ). 2 ^ 64 ≤ v) k (not_below _ _ l))
+  pub folded : (r : Option ℕ) (s u : Iter ℕ) → TryFoldsItems fronts g goes_on (λ _ r. r ≡ None) s f 0 r u → r ≡ digits_on base 0 s.rest.now
+  folded r s u d =
+      let on = passed d.0 s d.4.0 0 d.3 d.2 d.4.1 d.5 in
+      ends d.1 r d.4.0 u d.3 d.2 on.0 d.4.2 d.6 ∙ sym on.1
 
 -- four hexadecimal digits write a number of 16 bits
 all_in : (cs : List ℕ) → digits_in 16 cs ≡ true → AllDigits 16 cs

@@ -1,5 +1,7 @@
--- What is printed of a wrong line.
+-- What is printed of a text that is not read.
 use Rattle.std.specs.Prelude.{ℕ, List, ◌++◌, codes, decimal}
+use Rattle.recording.specs.declared.TextError.{TextError}
+use Rattle.recording.specs.declared.TextError.TheVariants.{Wrong, OutOfMemory}
 use Rattle.recording.specs.declared.wrong.WrongLine.{WrongLine}
 use Rattle.recording.specs.declared.wrong.Reason.{Reason}
 use Rattle.recording.specs.declared.wrong.Reason.TheVariants.{UnknownLine, BadTicks, TwoTicks, BadWord, TwoWords, BadPulse, NoWord, BadWave, TwoWaves, NoTicks}
@@ -18,3 +20,7 @@ reason_text NoTicks = codes "the 'ticks' line is missing"
 
 abbrev pub wrong_text : WrongLine → List ℕ
 wrong_text w = codes "line " ++ (decimal w.line ++ (codes ": " ++ reason_text w.reason))
+
+abbrev pub error_text : TextError → List ℕ
+error_text (Wrong w) = wrong_text w
+error_text OutOfMemory = codes "out of memory"

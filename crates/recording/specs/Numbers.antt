@@ -1,7 +1,12 @@
 -- Numbers as digits write them.
-use Rattle.std.specs.Prelude.{ℕ, ◌^◌, Bool, true, cond, ◌&&◌, List, [], ◌∷◌, length, Some, None, Option, nat_le, nat_lt}
+use Rattle.std.specs.Prelude.{ℕ, ◌+◌, ◌*◌, ◌^◌, Bool, true, cond, ◌&&◌, List, [], ◌∷◌, length, Some, None, Option, nat_le, nat_lt}
 use Rattle.std.specs.Str.Parse.{digits_value}
 use Rattle.std.specs.Char.{digit_value}
+
+-- the number n with one more digit, below 2^64
+abbrev pub with_digit : ℕ → ℕ → ℕ → Option ℕ
+with_digit base n c =
+    cond (nat_lt (digit_value c) base && nat_lt (n * base + digit_value c) (2 ^ 64)) (Some (n * base + digit_value c)) None
 
 -- each byte is a digit of the base: 0 to 9, then letters of either case
 abbrev pub digits_in : ℕ → List ℕ → Bool

@@ -1,10 +1,7 @@
 -- Bytes cut into lines and fields.
-use Rattle.std.specs.Prelude.{ℕ, suc, cond, List, [], ◌∷◌, ◌==◌}
-
--- how many bytes stand before the first s
-abbrev pub before : ℕ → List ℕ → ℕ
-before s [] = 0
-before s (b ∷ bs) = cond (b == s) 0 (suc (before s bs))
+use Rattle.std.specs.Prelude.{ℕ, cond, List, [], ◌∷◌, ◌==◌}
+use Rattle.recording.specs.declared.pieces.Pieces.{Pieces}
+use Rattle.recording.specs.declared.pieces.Fields.{Fields}
 
 -- one more byte at the front of the first piece
 abbrev pub onto : ℕ → List (List ℕ) → List (List ℕ)
@@ -28,3 +25,10 @@ lines_of text = pieces_of 10 text
 -- the fields of a line: the longest rows of bytes other than the space
 abbrev pub fields_of : List ℕ → List (List ℕ)
 fields_of line = filled (pieces_of 32 line)
+
+-- those that an iterator has left
+abbrev pub pieces_left : Pieces → List (List ℕ)
+pieces_left p = pieces_of p.separator p.rest.now
+
+abbrev pub fields_left : Fields → List (List ℕ)
+fields_left f = filled (pieces_left f.pieces)

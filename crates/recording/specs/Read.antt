@@ -1,6 +1,7 @@
 -- What a text describes, or its first wrong line.
 use Rattle.std.specs.Prelude.{◌≡◌, ℕ, ◌+◌, List, [], ◌∷◌, ◌++◌, Some, None, Ok, Err, vec_items, Option, Result}
-use Rattle.std.specs.Option.{unwrap_or, option_to_list}
+use Rattle.std.specs.Option.{unwrap_or, option_map, ok_or, option_to_list}
+use Rattle.std.specs.Result.{result_map_both}
 use Rattle.hosts.specs.declared.pulse.Pulse.{Pulse}
 use Rattle.recording.specs.declared.Wave.{Wave}
 use Rattle.recording.specs.declared.Seen.{Seen}
@@ -15,22 +16,18 @@ use Rattle.recording.specs.declared.line.Line.TheVariants.{Skip, Ticks, Word, Pu
 use Rattle.recording.specs.Pieces.{lines_of, fields_of}
 use Rattle.recording.specs.Lines.{line_of}
 
--- y if the option is none, or if it is some
+-- y if there is no value yet
 abbrev pub unless : {X Y : Type 0} → Option X → Y → Reason → Result Y Reason
 unless None y why = Ok y
 unless (Some x) y why = Err why
 
-abbrev pub given : {X Y : Type 0} → Option X → Y → Reason → Result Y Reason
-given None y why = Err why
-given (Some x) y why = Ok y
-
 -- what the lines have said after one more: at most one gives the ticks, the word or the wave, and a word stands above each pulse
 abbrev pub noted : Seen → Line → Result Seen Reason
 noted s Skip = Ok s
-noted s (Ticks n) = unless s.ticks (record { ticks = Some n; word = s.word; wave = s.wave }) TwoTicks
-noted s (Word w) = unless s.word (record { ticks = s.ticks; word = Some w; wave = s.wave }) TwoWords
-noted s (PulseLine p) = given s.word s NoWord
-noted s (WaveLine w) = unless s.wave (record { ticks = s.ticks; word = s.word; wave = Some w }) TwoWaves
+noted s (Ticks n) = unless s.ticks (record s { ticks = Some n }) TwoTicks
+noted s (Word w) = unless s.word (record s { word = Some w }) TwoWords
+noted s (PulseLine p) = ok_or (option_map (λ _. s) s.word) NoWord
+noted s (WaveLine w) = unless s.wave (record s { wave = Some w }) TwoWaves
 
 -- the pulse that a line has
 abbrev pub pulse_in : Line → Option Pulse
@@ -46,7 +43,7 @@ and_then (Err e) f = Err e
 
 -- one line of bytes more
 abbrev pub step_of : Seen → List ℕ → Result (Seen × Option Pulse) Reason
-step_of s bytes = and_then (line_of (fields_of bytes)) (λ line. and_then (noted s line) (λ t. Ok (t, pulse_in line)))
+step_of s bytes = and_then (line_of (fields_of bytes)) (λ line. result_map_both (λ t. (t, pulse_in line)) (λ why. why) (noted s line))
 
 pub record Described : Type 0 where
   pub ticks : ℕ
@@ -59,15 +56,11 @@ abbrev pub ended : ℕ → Seen → List Pulse → Option ℕ → Result Describ
 ended n s ps None = Err (record { line = n; reason = NoTicks })
 ended n s ps (Some t) = Ok (record { ticks = t; word = unwrap_or s.word 0; pulses = ps; wave = s.wave })
 
--- after line n
-abbrev pub onward : {X Y : Type 0} → ℕ → Result X Reason → (X → Result Y WrongLine) → Result Y WrongLine
-onward n (Ok x) f = f x
-onward n (Err why) f = Err (record { line = n; reason = why })
-
 -- the lines from line n on, after lines that said s and have the pulses ps
 abbrev pub read_on : ℕ → Seen → List Pulse → List (List ℕ) → Result Described WrongLine
 read_on n s ps [] = ended n s ps s.ticks
-read_on n s ps (l ∷ ls) = onward n (step_of s l) (λ x. read_on (n + 1) x.0 (ps ++ option_to_list x.1) ls)
+read_on n s ps (l ∷ ls) =
+    and_then (result_map_both (λ x. x) (λ why. record { line = n; reason = why }) (step_of s l)) (λ x. read_on (n + 1) x.0 (ps ++ option_to_list x.1) ls)
 
 abbrev pub nothing : Seen
 nothing = record { ticks = None; word = None; wave = None }

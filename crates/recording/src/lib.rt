@@ -11,14 +11,17 @@
 // OFFSET, LENGTH, LOW and HIGH are below 2^64. Whether a host takes these pulses and this wave is not tested here.
 #![tactic(auto)]
 
-ghost use Rattle.std.specs.Prelude.{◌≡◌};
-ghost use Rattle.recording.specs.Read.{noted, step_of, Answers, read_all};
-ghost use Rattle.recording.specs.declared.TextError.TheVariants.{OutOfMemory};
+ghost use Rattle.std.specs.Prelude.{◌≡◌, Some};
+ghost use Rattle.std.specs.Result.{result_map_both};
+ghost use Rattle.recording.specs.Messages.{error_text};
+ghost use Rattle.recording.specs.Read.{unless, noted, step_of, Answers, read_all};
+ghost use Rattle.recording.specs.declared.TextError.TheVariants.{Wrong, OutOfMemory};
 
 use crate::line::{Line, read_line};
-use crate::pieces::cut;
+use crate::pieces::lines;
 use hosts::pulse::Pulse;
 use std::alloc::{AllocFailed, Global};
+use std::fmt;
 
 mod line;
 mod numbers;
@@ -59,8 +62,38 @@ impl<T: Drop> From<AllocFailed<T>> for TextError {
     }
 }
 
+impl From<WrongLine> for TextError {
+    ghost from_gives = { λ w r. r ≡ Wrong w };
+
+    fn from(wrong: WrongLine) -> TextError {
+        TextError::Wrong(wrong)
+    }
+}
+
+impl fmt::Display for TextError {
+    ghost output = { λ e. Some (error_text e) };
+
+    fn fmt<W: fmt::Write>(&self, f: &mut fmt::Formatter<W>) -> fmt::Result {
+        match self {
+            TextError::Wrong(line) => write!(f, "{line}"),
+            TextError::OutOfMemory => write!(f, "out of memory"),
+        }
+    }
+}
+
+// Gives a value once; a second one is wrong.
+fn give_once<T: Drop>(slot: &mut Option<T>, value: T, why: Reason) -> Result<(), Reason>
+    ensures { result_map_both (λ _. slot.new) (λ e. e) result ≡ unless slot.old (Some value) why }
+{
+    if slot.is_some() {
+        return Err(why);
+    }
+    *slot = Some(value);
+    Ok(())
+}
+
 // What the lines so far have said, but for their pulses.
-#[derive(Clone, Copy)]
+#[derive(Clone, Copy, Default)]
 struct Seen {
     ticks: Option<u64>,
     word: Option<u16>,
@@ -68,49 +101,28 @@ struct Seen {
 }
 
 impl Seen {
-    // After one more line. Ticks, word and wave are given once, and a pulse stands below a word.
-    fn note(self, line: Line) -> Result<Seen, Reason>
-        ensures { result ≡ noted self line }
+    // Notes one more line. Ticks, word and wave are given once, and a pulse stands below a word.
+    fn note(&mut self, line: Line) -> Result<(), Reason>
+        ensures { result_map_both (λ _. self.new) (λ e. e) result ≡ noted self.old line }
     {
         match line {
-            Line::Skip => Ok(self),
-            Line::Ticks(n) => match self.ticks {
-                None => Ok(Seen {
-                    ticks: Some(n),
-                    ..self
-                }),
-                Some(_) => Err(Reason::TwoTicks),
-            },
-            Line::Word(w) => match self.word {
-                None => Ok(Seen {
-                    word: Some(w),
-                    ..self
-                }),
-                Some(_) => Err(Reason::TwoWords),
-            },
-            Line::Pulse(_) => match self.word {
-                None => Err(Reason::NoWord),
-                Some(_) => Ok(self),
-            },
-            Line::Wave(w) => match self.wave {
-                None => Ok(Seen {
-                    wave: Some(w),
-                    ..self
-                }),
-                Some(_) => Err(Reason::TwoWaves),
-            },
+            Line::Skip => Ok(()),
+            Line::Ticks(n) => give_once(&mut self.ticks, n, Reason::TwoTicks),
+            Line::Word(w) => give_once(&mut self.word, w, Reason::TwoWords),
+            Line::Pulse(_) => self.word.map(|_| ()).ok_or(Reason::NoWord),
+            Line::Wave(w) => give_once(&mut self.wave, w, Reason::TwoWaves),
         }
     }
 
-    // After one more line of bytes, with the pulse that it has.
-    fn step(self, bytes: &[u8]) -> Result<(Seen, Option<Pulse>), Reason>
-        ensures { result ≡ step_of self bytes.now }
+    // Reads one more line of bytes, and answers the pulse that it has.
+    fn read(&mut self, bytes: &[u8]) -> Result<Option<Pulse>, Reason>
+        ensures { result_map_both (λ p. (self.new, p)) (λ e. e) result ≡ step_of self.old bytes.now }
     {
         let line = read_line(bytes)?;
-        let next = self.note(line)?;
+        self.note(line)?;
         match line {
-            Line::Pulse(p) => Ok((next, Some(p))),
-            _ => Ok((next, None)),
+            Line::Pulse(p) => Ok(Some(p)),
+            _ => Ok(None),
         }
     }
 }
@@ -119,33 +131,23 @@ impl Seen {
 pub fn parse(heap: Global, text: &[u8]) -> Result<Recording, TextError>
     ensures { Answers result (read_all text.now) }
 {
-    let mut seen = Seen {
-        ticks: None,
-        word: None,
-        wave: None,
-    };
+    let mut seen = Seen::default();
     let mut pulses = Vec::new(heap);
-    let mut rest = text;
+    // Counted here and not by `zip`, since a missing `ticks` line is told at the line after the last.
     let mut line = 1;
-    while !rest.is_empty() {
-        let (bytes, after) = cut(rest, b'\n');
-        match seen.step(bytes) {
-            Ok((next, None)) => seen = next,
-            Ok((next, Some(p))) => {
-                pulses.push(p)?;
-                seen = next;
-            }
-            Err(reason) => return Err(TextError::Wrong(WrongLine { line, reason })),
+    for bytes in lines(text) {
+        let pulse = seen
+            .read(bytes)
+            .map_err(|reason| WrongLine { line, reason })?;
+        if let Some(p) = pulse {
+            pulses.push(p)?;
         }
-        rest = after;
         line += 1;
     }
-    let Some(ticks) = seen.ticks else {
-        return Err(TextError::Wrong(WrongLine {
-            line,
-            reason: Reason::NoTicks,
-        }));
-    };
+    let ticks = seen.ticks.ok_or(WrongLine {
+        line,
+        reason: Reason::NoTicks,
+    })?;
     Ok(Recording {
         ticks,
         word: seen.word.unwrap_or(0),

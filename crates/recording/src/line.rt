@@ -1,11 +1,11 @@
 ghost use Rattle.std.specs.Prelude.{◌≡◌};
 ghost use Rattle.std.specs.Option.{option_map};
-ghost use Rattle.recording.specs.Pieces.{fields_of};
-ghost use Rattle.recording.specs.Lines.{only, is_comment, keyword_of, ticks_of, word_of, pulse_of, wave_of, line_of};
+ghost use Rattle.recording.specs.Pieces.{fields_of, fields_left};
+ghost use Rattle.recording.specs.Lines.{only, ticks_of, word_of, pulse_of, wave_of, announced, line_of};
 
 use crate::Wave;
 use crate::numbers::{decimal, hex};
-use crate::pieces::next_field;
+use crate::pieces::Fields;
 use crate::wrong::Reason;
 use hosts::host::HORIZON;
 use hosts::pulse::Pulse;
@@ -20,74 +20,39 @@ pub(crate) enum Line {
     Wave(Wave),
 }
 
-// What the first field of a line announces.
-#[derive(Clone, Copy)]
-enum Keyword {
-    Comment,
-    Ticks,
-    Word,
-    Pulse,
-    Wave,
-    Unknown,
-}
-
-// Whether a line with this first field says nothing.
-fn is_comment(field: &[u8]) -> bool
-    ensures { result ≡ is_comment field.now }
-{
-    !field.is_empty() && field[0] == b'#'
-}
-
-fn read_keyword(field: &[u8]) -> Keyword
-    ensures { result ≡ keyword_of field.now }
-{
-    if is_comment(field) {
-        Keyword::Comment
-    } else if field == b"ticks".as_slice() {
-        Keyword::Ticks
-    } else if field == b"word".as_slice() {
-        Keyword::Word
-    } else if field == b"pulse".as_slice() {
-        Keyword::Pulse
-    } else if field == b"wave".as_slice() {
-        Keyword::Wave
-    } else {
-        Keyword::Unknown
-    }
-}
-
 // The only field, if there is one and no more.
-fn only_field(fields: &[u8]) -> Option<&[u8]>
-    ensures { option_map (λ x. x.now) result ≡ only (fields_of fields.now) }
+fn only_field<'a>(mut fields: Fields<'a>) -> Option<&'a [u8]>
+    ensures { option_map (λ x. x.now) result ≡ only (fields_left fields.entry) }
 {
-    let (field, rest) = next_field(fields)?;
-    match next_field(rest) {
+    let field = fields.next()?;
+    match fields.next() {
         None => Some(field),
         Some(_) => None,
     }
 }
 
 // The fields of a `ticks` line after the first: N, at most 2^48.
-fn read_ticks(fields: &[u8]) -> Option<u64>
-    ensures { result ≡ ticks_of (fields_of fields.now) }
+fn read_ticks(fields: Fields<'_>) -> Option<u64>
+    ensures { result ≡ ticks_of (fields_left fields.entry) }
 {
-    let n = decimal(only_field(fields)?)?;
-    if n <= HORIZON { Some(n) } else { None }
+    only_field(fields)
+        .and_then(decimal)
+        .filter(|n| *n <= HORIZON)
 }
 
 // Those of a `word` line: WWWW.
-fn read_word(fields: &[u8]) -> Option<u16>
-    ensures { result ≡ word_of (fields_of fields.now) }
+fn read_word(fields: Fields<'_>) -> Option<u16>
+    ensures { result ≡ word_of (fields_left fields.entry) }
 {
-    hex(only_field(fields)?)
+    only_field(fields).and_then(hex)
 }
 
 // Those of a `pulse` line: OFFSET and LENGTH.
-fn read_pulse(fields: &[u8]) -> Option<Pulse>
-    ensures { result ≡ pulse_of (fields_of fields.now) }
+fn read_pulse(mut fields: Fields<'_>) -> Option<Pulse>
+    ensures { result ≡ pulse_of (fields_left fields.entry) }
 {
-    let (offset, rest) = next_field(fields)?;
-    let length = only_field(rest)?;
+    let offset = fields.next()?;
+    let length = only_field(fields)?;
     Some(Pulse {
         offset: decimal(offset)?,
         length: decimal(length)?,
@@ -95,12 +60,12 @@ fn read_pulse(fields: &[u8]) -> Option<Pulse>
 }
 
 // Those of a `wave` line: WWWW, LOW and HIGH.
-fn read_wave(fields: &[u8]) -> Option<Wave>
-    ensures { result ≡ wave_of (fields_of fields.now) }
+fn read_wave(mut fields: Fields<'_>) -> Option<Wave>
+    ensures { result ≡ wave_of (fields_left fields.entry) }
 {
-    let (word, rest) = next_field(fields)?;
-    let (low, rest) = next_field(rest)?;
-    let high = only_field(rest)?;
+    let word = fields.next()?;
+    let low = fields.next()?;
+    let high = only_field(fields)?;
     Some(Wave {
         word: hex(word)?,
         low: decimal(low)?,
@@ -108,31 +73,27 @@ fn read_wave(fields: &[u8]) -> Option<Wave>
     })
 }
 
+// A line by its first field and the fields after it.
+fn announced(first: &[u8], fields: Fields<'_>) -> Result<Line, Reason>
+    ensures { result ≡ announced first.now (fields_left fields.entry) }
+{
+    match first {
+        [b'#', ..] => Ok(Line::Skip),
+        b"ticks" => read_ticks(fields).map(Line::Ticks).ok_or(Reason::BadTicks),
+        b"word" => read_word(fields).map(Line::Word).ok_or(Reason::BadWord),
+        b"pulse" => read_pulse(fields).map(Line::Pulse).ok_or(Reason::BadPulse),
+        b"wave" => read_wave(fields).map(Line::Wave).ok_or(Reason::BadWave),
+        _ => Err(Reason::UnknownLine),
+    }
+}
+
 // What a line says by itself, whatever stands above it.
 pub(crate) fn read_line(line: &[u8]) -> Result<Line, Reason>
     ensures { result ≡ line_of (fields_of line.now) }
 {
-    let Some((field, rest)) = next_field(line) else {
-        return Ok(Line::Skip);
-    };
-    match read_keyword(field) {
-        Keyword::Comment => Ok(Line::Skip),
-        Keyword::Ticks => match read_ticks(rest) {
-            Some(n) => Ok(Line::Ticks(n)),
-            None => Err(Reason::BadTicks),
-        },
-        Keyword::Word => match read_word(rest) {
-            Some(w) => Ok(Line::Word(w)),
-            None => Err(Reason::BadWord),
-        },
-        Keyword::Pulse => match read_pulse(rest) {
-            Some(p) => Ok(Line::Pulse(p)),
-            None => Err(Reason::BadPulse),
-        },
-        Keyword::Wave => match read_wave(rest) {
-            Some(w) => Ok(Line::Wave(w)),
-            None => Err(Reason::BadWave),
-        },
-        Keyword::Unknown => Err(Reason::UnknownLine),
+    let mut fields = Fields::new(line);
+    match fields.next() {
+        None => Ok(Line::Skip),
+        Some(first) => announced(first, fields),
     }
 }

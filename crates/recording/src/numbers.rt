@@ -1,5 +1,16 @@
 ghost use Rattle.std.specs.Prelude.{◌≡◌, ◌^◌, ◌≤◌};
-ghost use Rattle.recording.specs.Numbers.{under, number_in, decimal_of, hex_of};
+ghost use Rattle.recording.specs.Numbers.{with_digit, under, number_in, decimal_of, hex_of};
+
+// The number with one more digit, unless it is 2^64 or more.
+fn with_digit(n: u64, digit: u8, base: u32) -> Option<u64>
+    requires least { 2 ≤ base }
+    requires most { base ≤ 36 }
+    ensures { result ≡ with_digit base n digit }
+{
+    let value = char::from(digit).to_digit(base)?;
+    n.checked_mul(u64::from(base))?
+        .checked_add(u64::from(value))
+}
 
 // The number that one or more digits write in a base, unless it is 2^64 or more.
 fn number(digits: &[u8], base: u32) -> Option<u64>
@@ -10,14 +21,9 @@ fn number(digits: &[u8], base: u32) -> Option<u64>
     if digits.is_empty() {
         return None;
     }
-    let mut n: u64 = 0;
-    for b in digits {
-        let digit = char::from(*b).to_digit(base)?;
-        n = n
-            .checked_mul(u64::from(base))?
-            .checked_add(u64::from(digit))?;
-    }
-    Some(n)
+    digits
+        .iter()
+        .try_fold(0, |n, digit| with_digit(n, *digit, base))
 }
 
 // A number in base ten, below 2^64.
@@ -34,8 +40,5 @@ pub(crate) fn hex(digits: &[u8]) -> Option<u16>
     if digits.len() > 4 {
         return None;
     }
-    match number(digits, 16) {
-        Some(n) => Some(n as u16),
-        None => None,
-    }
+    number(digits, 16).map(|n| n as u16)
 }

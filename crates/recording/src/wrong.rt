@@ -1,4 +1,4 @@
-ghost use Rattle.std.specs.Prelude.{◌≡◌, Some};
+ghost use Rattle.std.specs.Prelude.{Some};
 ghost use Rattle.recording.specs.Messages.{reason_text, wrong_text};
 
 use std::fmt;
@@ -25,11 +25,11 @@ pub struct WrongLine {
     pub reason: Reason,
 }
 
-impl Reason {
-    fn text(self) -> &'static str
-        ensures { result.now ≡ reason_text self }
-    {
-        match self {
+impl fmt::Display for Reason {
+    ghost output = { λ r. Some (reason_text r) };
+
+    fn fmt<W: fmt::Write>(&self, f: &mut fmt::Formatter<W>) -> fmt::Result {
+        f.write_str(match *self {
             Reason::UnknownLine => "expected 'ticks', 'word', 'pulse', 'wave' or a comment",
             Reason::BadTicks => "expected 'ticks N' with a number of at most 2^48",
             Reason::TwoTicks => "a second 'ticks' line",
@@ -40,7 +40,7 @@ impl Reason {
             Reason::BadWave => "expected 'wave WWWW LOW HIGH' with a word and two numbers",
             Reason::TwoWaves => "a second 'wave' line",
             Reason::NoTicks => "the 'ticks' line is missing",
-        }
+        })
     }
 }
 
@@ -49,7 +49,7 @@ impl fmt::Display for WrongLine {
 
     fn fmt<W: fmt::Write>(&self, f: &mut fmt::Formatter<W>) -> fmt::Result {
         let line = self.line;
-        let reason = self.reason.text();
+        let reason = self.reason;
         write!(f, "line {line}: {reason}")
     }
 }

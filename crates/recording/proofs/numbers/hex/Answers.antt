@@ -1,12 +1,11 @@
-use Rattle.std.proofs.Common.{◌∙◌, arith}
+use Rattle.std.proofs.Common.{rules, ◌≡◌, sym, ◌∙◌, arith}
 use Rattle.recording.proofs.Digits.{hex_is, hex_fits}
 use Rattle.recording.proofs.numbers.hex.Goals as goal
 
-pub overflow_cast-result : goal.overflow_cast-result
-overflow_cast-result c = omega (arith, hex_fits c.args.digits.now c.in-Some.n c.if-digits-gt4.false c.in-Some.ensures)
+pub map-requires : goal.map-requires
+map-requires c = λ x e _ _. omega (arith, hex_fits c.args.digits.now x c.if-digits-gt4.false (sym e ∙ c.number.ensures))
 
-pub returns-in-Some : goal.returns-in-Some
-returns-in-Some c = c.in-Some.ensures ∙ hex_is c.args.digits.now c.if-digits-gt4.false
-
-pub returns-in-None : goal.returns-in-None
-returns-in-None c = c.in-None.ensures ∙ hex_is c.args.digits.now c.if-digits-gt4.false
+pub returns : goal.returns
+returns c =
+    let same : c.map.result ≡ c.number.result = search rules in
+    same ∙ c.number.ensures ∙ hex_is c.args.digits.now c.if-digits-gt4.false
