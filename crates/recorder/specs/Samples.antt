@@ -1,5 +1,5 @@
 -- The two kinds of sample of a chip: its pins and its mode.
-use Rattle.std.specs.Prelude.{◌≡◌, ℕ, ◌≤◌, Bool, cond, ◌&&◌, List, [], ◌∷◌, ◌++◌, length, Decides, ◌==◌, refl}
+use Rattle.std.specs.Prelude.{◌≡◌, ℕ, ◌≤◌, Bool, true, false, cond, ◌&&◌, List, [], ◌∷◌, ◌++◌, length, Decides, ◌==◌, refl}
 use Rattle.std.proofs.Common.{sym, ap, ◌∙◌, lit≤}
 use Rattle.std.proofs.lemmas.Bool.{eqb-true, eq-eqb}
 use Rattle.std.proofs.lemmas.Bool.Decides.{Decides-eqb, Decides-and, Decides-like}
@@ -56,6 +56,20 @@ exact_modes p q =
 
 abbrev pub mode_kind : Kind Mode
 mode_kind = record { like = like_modes; exact = exact_modes; none = Running }
+
+-- an equality that tells the three modes apart is likeness
+pub alike_modes : (eq : Mode → Mode → Bool) → eq Running Running ≡ true → eq WakeUpTimer WakeUpTimer ≡ true → eq Stopped Stopped ≡ true →
+    eq Running WakeUpTimer ≡ false → eq WakeUpTimer Running ≡ false → eq Running Stopped ≡ false → eq Stopped Running ≡ false →
+    eq WakeUpTimer Stopped ≡ false → eq Stopped WakeUpTimer ≡ false → (p q : Mode) → eq p q ≡ like_modes p q
+alike_modes eq s0 s1 s2 d0 d1 d2 d3 d4 d5 Running Running = s0
+alike_modes eq s0 s1 s2 d0 d1 d2 d3 d4 d5 Running WakeUpTimer = d0
+alike_modes eq s0 s1 s2 d0 d1 d2 d3 d4 d5 Running Stopped = d2
+alike_modes eq s0 s1 s2 d0 d1 d2 d3 d4 d5 WakeUpTimer Running = d1
+alike_modes eq s0 s1 s2 d0 d1 d2 d3 d4 d5 WakeUpTimer WakeUpTimer = s1
+alike_modes eq s0 s1 s2 d0 d1 d2 d3 d4 d5 WakeUpTimer Stopped = d4
+alike_modes eq s0 s1 s2 d0 d1 d2 d3 d4 d5 Stopped Running = d3
+alike_modes eq s0 s1 s2 d0 d1 d2 d3 d4 d5 Stopped WakeUpTimer = d5
+alike_modes eq s0 s1 s2 d0 d1 d2 d3 d4 d5 Stopped Stopped = s2
 
 pub short_mode : (m : Mode) → length (mode_letter m ∷ []) ≤ 19
 short_mode m = lit≤ tt

@@ -1,6 +1,5 @@
-ghost use Rattle.std.specs.Prelude.{◌≡◌};
-ghost use Rattle.std.proofs.Common.{rules};
-ghost use Rattle.recorder.specs.Samples.{mode_letter, mode_kind, mode_script};
+ghost use Rattle.std.specs.Prelude.{◌≡◌, refl};
+ghost use Rattle.recorder.specs.Samples.{mode_letter, mode_kind, alike_modes, mode_script};
 
 use crate::stretch::{Sample, TEXT};
 use arrayvec::ArrayVec;
@@ -31,7 +30,7 @@ impl Sample for Mode {
 
     ghost script = { mode_script };
 
-    ghost alike = { Prim.search rules };
+    ghost alike = { alike_modes _ refl refl refl refl refl refl refl refl refl };
 
     fn letter() -> u8 {
         b'M'
