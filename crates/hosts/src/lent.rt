@@ -1,7 +1,7 @@
 use crate::host::PinHost;
 
 // A host by reference, so that one can be joined without being given away.
-impl<'a, P: PinHost> PinHost for &'a P {
+impl<P: PinHost> PinHost for &P {
     ghost meaning = { λ s. P.PinHost.meaning s.now };
 
     ghost mark = { λ s. P.PinHost.mark s.now };

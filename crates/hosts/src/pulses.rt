@@ -85,7 +85,7 @@ impl<'a> PulseList<'a> {
     }
 }
 
-impl<'a> PinHost for PulseList<'a> {
+impl PinHost for PulseList<'_> {
     ghost meaning = { λ s t. (if covered s.pulses.now t then s.word.bits else 0) };
 
     ghost mark = { λ s t. turn_of s.pulses.now t };
