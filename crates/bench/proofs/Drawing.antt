@@ -1,6 +1,6 @@
 -- The chart of a list of samples, for any kind of sample.
 use Rattle.std.proofs.Common.{◌≡◌, ℕ, zero, suc, ◌+◌, ◌-◌, ◌^◌, ◌<◌, ◌≤◌, Bool, true, false, cond, ◌&&◌, eqb, ltb, leb, List, [], ◌∷◌, length, take, set, Some, None, Option, sym, refl, ap, ◌∙◌, subst, inl, inr, arith, get_or-set_other}
-use Rattle.std.proofs.lemmas.List.{get_or-set_same}
+use Rattle.std.proofs.lemmas.List.{get_or-set_same, take_more_same}
 use Rattle.std.proofs.lemmas.Bool.{eq-eqb, ne_eqb, le-leb, lt-leb, lt-ltb, le-ltb, cases_eq, and_left, both_ways}
 use Rattle.recorder.specs.declared.stretch.Stretch.{Stretch}
 use Rattle.recorder.specs.Kinds.{Kind}
@@ -151,12 +151,9 @@ module _ {X : Type 0} (K : Kind X) where
   -- lists that agree below n have the same first n elements
   same_front : (n : ℕ) (cs ds : List (Stretch X)) → n ≤ length cs → n ≤ length ds → ((k : ℕ) → k < n → place K cs k ≡ place K ds k) → take n cs ≡ take n ds
   same_front zero cs ds p q e = refl
-  same_front (suc n) [] ds p q e = absurd (omega arith)
-  same_front (suc n) (c ∷ cs) [] p q e = absurd (omega arith)
-  same_front (suc n) (c ∷ cs) (d ∷ ds) p q e =
-      let head : c ≡ d = e 0 (omega arith) in
-      let tail : take n cs ≡ take n ds = same_front n cs ds (omega arith) (omega arith) (λ k h. e (suc k) (omega arith)) in
-      cc
+  same_front (suc n) cs ds p q e =
+      let next : n + 1 ≡ suc n = omega arith in
+      subst (λ (v : ℕ). take v cs ≡ take v ds) next (take_more_same cs ds n (stretch 0 0 K.none) (omega arith) (omega arith) (same_front n cs ds (omega arith) (omega arith) (λ k h. e k (omega arith))) (e n (omega arith)))
 
   -- two charts of one list have the same counted stretches
   pub draws_alike : (places n count count₂ : ℕ) (chart chart₂ : List (Stretch X)) (xs ys : List X) → xs ≡ ys → Draws places n count chart xs → Draws places n count₂ chart₂ ys → (count ≡ count₂) × (take count chart ≡ take count₂ chart₂)

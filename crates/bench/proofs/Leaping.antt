@@ -314,14 +314,9 @@ module _ (image : List ℕ) (n : Seen) (most : ℕ) (h : Held) (c : Charts) wher
         let t = charts_go h c ticks x s h' c' pos room (ap (λ (v : Moment). v.tick) e ∙ ap (λ (v : ℕ). h.moment.tick + v) (sym all)) q in
         (t.0 ∙ ap (λ (v : Moment). left (then_held v (charted ticks x h.stretches c)) (h, c)) e ∙ as_advanced, t.1 b)
 
+-- a move takes its quiet ticks, and one at the least
 pub takes_max : (k : ℕ) → max k 1 ≡ takes k
 takes_max k = elim (cases_lt 0 k) [ inl h ↦ rw (ne_eqb k 0 (λ e. omega arith)) (omega arith) | inr h ↦ rw (eq-eqb k 0 (omega arith)) (omega arith) ]
-
-pub takes_some : (k : ℕ) → 0 < takes k
-takes_some k = elim (cases_lt 0 k) [ inl h ↦ rw (ne_eqb k 0 (λ e. omega arith)) h | inr h ↦ rw (eq-eqb k 0 (omega arith)) (omega arith) ]
-
-pub takes_most : (k most : ℕ) → k ≤ most → 0 < most → takes k ≤ most
-takes_most k most few some = elim (cases_lt 0 k) [ inl h ↦ rw (ne_eqb k 0 (λ e. omega arith)) few | inr h ↦ rw (eq-eqb k 0 (omega arith)) (omega arith) ]
 
 -- what is known of a move from the machine that has acted
 pub reaches_by : (n : Seen) (most t : ℕ) (o : Result Machine Fault) (m : Machine) (k : ℕ) → Ok m ≡ o → k ≡ stride (moment m t) n most → Stride (moment m t) n most k → Reaches n most t o

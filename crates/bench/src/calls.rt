@@ -142,6 +142,7 @@ impl Chip {
     }
 
     // Makes run calls one after the other, each with what the one before left, and answers how many ticks they ran in all.
+    // It adds up in a `for`, since the contract of `sum`, which takes an iterator by value, does not say what the closure's `&mut`s leave.
     pub fn play<P: PinHost>(
         &mut self,
         image: &[u8],

@@ -69,7 +69,8 @@ impl Moment {
         }
     }
 
-    // Takes quiet ticks at once, or, where there are none, ends the tick that has begun.
+    // Takes quiet ticks at once, or, where there are none, ends the tick that has begun. An enum of the two kinds of move would be
+    // no plainer: that a stride is the longest is said of the number of its quiet ticks, which may be 0.
     fn go_on(&mut self, image: &[u8], seen: &Seen, quiet: u64)
         requires { self.old.tick + takes quiet ≤ 2 ^ 48 }
         ensures value { self.new ≡ moment (onward image.now seen.now quiet self.old.machine) (self.old.tick + takes quiet) }

@@ -19,7 +19,7 @@ pub const IMAGE: usize = 2048;
 // The most ticks of one grant, 2^32.
 pub const GRANT: u64 = 1 << 32;
 
-// What a run call answers: the ticks that it ran, and why it was refused or stopped.
+// What a run call answers: the ticks that it ran, and why it was refused or stopped. It is no `Result`, since a stop has ticks too.
 #[derive(Clone, Copy, PartialEq, Eq, Debug)]
 pub struct Run {
     pub ticks: u64,

@@ -38,6 +38,7 @@ impl Moment {
 
 impl Bench<'_> {
     // Adds `ticks` ticks of the samples to both charts. A stop where one has no place, the pin chart's first, and then nothing changes.
+    // So the pin chart is asked for its place before the mode chart is added to, and added to after it.
     pub(crate) fn add(&mut self, ticks: u64, samples: Samples) -> Result<(), Fault>
         ensures value { (result, (self.new.held.stretches, charts_of self.new)) ≡ left (charted ticks samples self.old.held.stretches (charts_of self.old)) (self.old.held.stretches, charts_of self.old) }
         ensures moment { self.new.held.moment ≡ self.old.held.moment }

@@ -5,7 +5,7 @@ use Rattle.machine.specs.declared.state.Machine.{Machine}
 use Rattle.bench.specs.Benches.{charts_of}
 use Rattle.bench.specs.Keeps.{Bounded}
 use Rattle.bench.specs.Leaps.{takes, Reaches}
-use Rattle.bench.proofs.Leaping.{advance_faults, advance_stops, advance_goes, takes_max, takes_some, takes_most, reaches_by, reach_by, bounded_by}
+use Rattle.bench.proofs.Leaping.{advance_faults, advance_stops, advance_goes, takes_max, reaches_by, reach_by, bounded_by}
 use Rattle.bench.proofs.bench.Bench.advance.Goals as goal
 
 pub returns-in_err-begin : goal.returns-in_err-begin
@@ -28,8 +28,8 @@ stride-quiet-requires c = c.in_ok-begin.ensures.sound c.requires.accepted.ready.
 
 pub go_on-requires : goal.go_on-requires
 go_on-requires c =
-    let few = takes_most c.stride-quiet.result c.args.most c.stride-quiet.ensures.longest.granted c.requires.some in
-    omega (arith, c.requires.accepted.time)
+    let max = takes_max c.stride-quiet.result in
+    omega (arith, c.stride-quiet.ensures.longest.granted, c.requires.accepted.time)
 
 pub returns-in_err-add : goal.returns-in_err-add
 returns-in_err-add c =
@@ -60,8 +60,7 @@ returns c =
     let max = takes_max c.stride-quiet.result in
     let all : c.max-ticks.result ≡ takes c.stride-quiet.result = cc in
     let e = c.in_ok-add.ensures in
-    let few = takes_most c.stride-quiet.result c.args.most k.longest.granted c.requires.some in
-    let some = takes_some c.stride-quiet.result in
+    let few = k.longest.granted in
     let time = c.requires.accepted.time in
     let acted = bounded_by h.moment.machine c.begin.new.self _ begun.value c.requires.accepted.ready.whole.machine begun.sound begun.owed in
     let s = advance_goes c.args.image.now n c.args.most h (charts_of c.args.self.now) c.begin.new.self begun.value c.stride-quiet.result k.value c.max-ticks.result all c.samples-samples.result c.samples-samples.ensures c.add.new.self.held (charts_of c.add.new.self) c.go_on.new.self c.go_on.ensures.value (omega arith) (omega arith) (λ b. c.go_on.ensures.bounded (record { sound = begun.sound b.sound; owed = begun.owed b.owed })) e.value in
