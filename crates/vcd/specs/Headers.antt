@@ -1,5 +1,6 @@
 -- The variables that a VCD file declares.
 use Rattle.std.specs.Prelude.{ℕ, ◌+◌, List, [], ◌∷◌, ◌++◌, codes}
+use Rattle.vcd.specs.Signals.{first_level, first_drive}
 
 -- the pins, from bit 0 on
 abbrev pub pin_names : List (List ℕ)
@@ -13,13 +14,6 @@ var_line id suffix name = codes "$var wire 1 " ++ ((id ∷ 32 ∷ name) ++ (suff
 unfoldable pub var_lines : ℕ → List ℕ → List (List ℕ) → List ℕ
 var_lines id suffix [] = []
 var_lines id suffix (name ∷ names) = var_line id suffix name ++ var_lines (id + 1) suffix names
-
--- the identifiers of the first pin's level and drive, '!' and '0'. Those of the other pins follow
-abbrev pub first_level : ℕ
-first_level = 33
-
-abbrev pub first_drive : ℕ
-first_drive = 48
 
 -- the time unit and all variables
 abbrev pub header_of : List ℕ

@@ -1,3 +1,4 @@
-pub mod Adds
+pub mod Signals
 pub mod Headers
+pub mod Values
 pub mod Changes

@@ -1,54 +1,60 @@
-ghost use Rattle.std.specs.Prelude.{◌≤◌, OnOk};
-ghost use Rattle.vcd.specs.Adds.{Adds};
-ghost use Rattle.vcd.specs.Headers.{pin_names, var_line, var_lines, header_of};
+ghost use Rattle.std.specs.Prelude.{Some, ◌≤◌, length, map};
+ghost use Rattle.vcd.specs.Signals.{first_id, suffix};
+ghost use Rattle.vcd.specs.Headers.{var_lines, header_of};
 
-use crate::bytes::add_bytes;
-use crate::values::{FIRST_DRIVE, FIRST_LEVEL};
-use std::alloc::AllocError;
+use crate::signal::Signal;
+use std::fmt;
 
 // The pins' names, from bit 0 on.
-const PIN_NAMES: [[u8; 3]; 15] = [
-    *b"RA0", *b"RA1", *b"RA2", *b"RA3", *b"RA4", *b"RA5", *b"RA6", *b"RA7", *b"RB0", *b"RB1",
-    *b"RB2", *b"RB3", *b"RB4", *b"RC0", *b"RC1",
+const PIN_NAMES: [&str; 15] = [
+    "RA0", "RA1", "RA2", "RA3", "RA4", "RA5", "RA6", "RA7", "RB0", "RB1", "RB2", "RB3", "RB4",
+    "RC0", "RC1",
 ];
 
 // What stands above the variables.
-const START: &[u8] =
-    b"$comment one time unit is one tick $end\n$timescale 1 ns $end\n$scope module chip $end\n";
+const START: &str =
+    "$comment one time unit is one tick $end\n$timescale 1 ns $end\n$scope module chip $end\n";
 
 // What stands below those of the pins.
-const END: &[u8] = b"$var wire 8 m mode $end\n$upscope $end\n$enddefinitions $end\n";
+const END: &str = "$var wire 8 m mode $end\n$upscope $end\n$enddefinitions $end\n";
 
-// Adds the declaration of a variable of one bit.
-fn add_variable(out: &mut Vec<u8>, id: u8, suffix: &[u8], name: &[u8]) -> Result<(), AllocError>
-    ensures { OnOk result (Adds out.old.items (var_line id suffix.now name.now) out.new.items) }
-{
-    add_bytes(out, b"$var wire 1 ")?;
-    add_bytes(out, &[id, b' '])?;
-    add_bytes(out, name)?;
-    add_bytes(out, suffix)?;
-    add_bytes(out, b" $end\n")
+// The declarations of a signal's variables, for pins of these names.
+#[derive(Clone, Copy)]
+struct Variables<'a> {
+    signal: Signal,
+    names: &'a [&'static str],
+    ghost few: { length names.now ≤ 15 },
 }
 
-// Adds a variable for each pin, with identifiers from `first` on.
-fn add_variables(out: &mut Vec<u8>, first: u8, suffix: &[u8]) -> Result<(), AllocError>
-    requires { first ≤ 48 }
-    ensures { OnOk result (Adds out.old.items (var_lines first suffix.now pin_names) out.new.items) }
-{
-    let mut id = first;
-    for name in &PIN_NAMES {
-        add_variable(out, id, suffix, name)?;
-        id += 1;
+impl fmt::Display for Variables<'_> {
+    ghost output = { λ v. Some (var_lines (first_id v.signal) (suffix v.signal) (map (λ name. name.now) v.names.now)) };
+
+    fn fmt<W: fmt::Write>(&self, f: &mut fmt::Formatter<W>) -> fmt::Result {
+        let suffix = self.signal.suffix();
+        for (pin, name) in self.names.iter().enumerate() {
+            let id = self.signal.id(pin as u8);
+            writeln!(f, "$var wire 1 {id} {name}{suffix} $end")?;
+        }
+        Ok(())
     }
-    Ok(())
 }
 
-// Adds the part above the values: the time unit and the variables.
-pub(crate) fn add_header(out: &mut Vec<u8>) -> Result<(), AllocError>
-    ensures { OnOk result (Adds out.old.items header_of out.new.items) }
-{
-    add_bytes(out, START)?;
-    add_variables(out, FIRST_LEVEL, b"")?;
-    add_variables(out, FIRST_DRIVE, b"_drive")?;
-    add_bytes(out, END)
+// The part above the values: the time unit and the variables.
+#[derive(Clone, Copy)]
+pub(crate) struct Header;
+
+impl fmt::Display for Header {
+    ghost output = { λ _. Some header_of };
+
+    fn fmt<W: fmt::Write>(&self, f: &mut fmt::Formatter<W>) -> fmt::Result {
+        let levels = Variables {
+            signal: Signal::Level,
+            names: &PIN_NAMES,
+        };
+        let drives = Variables {
+            signal: Signal::Drive,
+            names: &PIN_NAMES,
+        };
+        write!(f, "{START}{levels}{drives}{END}")
+    }
 }

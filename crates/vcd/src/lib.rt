@@ -1,21 +1,62 @@
 // Charts as a VCD file (Value Change Dump, IEEE 1364), which wave viewers read.
 #![tactic(auto)]
 
-mod bytes;
 mod header;
+mod signal;
 mod values;
 mod walk;
 
-ghost use Rattle.std.specs.Prelude.{◌≡◌, IfOk};
+ghost use Rattle.std.specs.Prelude.{◌≡◌, IfOk, Some};
 ghost use Rattle.vcd.specs.Changes.{vcd_of};
 
-use header::add_header;
+use header::Header;
 use recorder::mode::Mode;
 use recorder::pin_sample::PinSample;
 use recorder::stretch::Stretch;
 use std::alloc::{AllocError, Global};
-use values::add_start;
-use walk::add_changes;
+use std::fmt;
+use values::{ModeValue, PinValues};
+use walk::Walk;
+
+// A sample in which all pins are set.
+const ALL_PINS: PinSample = PinSample {
+    levels: 0x7fff,
+    drive: 0x7fff,
+};
+
+// Two charts of some ticks, which begin at tick 0.
+#[derive(Clone, Copy)]
+struct Charts<'a> {
+    pins: &'a [Stretch<PinSample>],
+    modes: &'a [Stretch<Mode>],
+    ticks: u64,
+}
+
+impl fmt::Display for Charts<'_> {
+    ghost output = { λ c. Some (vcd_of c.pins.now c.modes.now c.ticks) };
+
+    fn fmt<W: fmt::Write>(&self, f: &mut fmt::Formatter<W>) -> fmt::Result {
+        write!(f, "{Header}")?;
+        let Some((first_pins, more_pins)) = self.pins.split_first() else {
+            return Ok(());
+        };
+        let Some((first_mode, more_modes)) = self.modes.split_first() else {
+            return Ok(());
+        };
+        let pins = PinValues {
+            sample: first_pins.sample,
+            which: ALL_PINS,
+        };
+        let mode = ModeValue(first_mode.sample);
+        let walk = Walk {
+            end: self.ticks,
+            shown: first_pins.sample,
+            pins: more_pins,
+            modes: more_modes,
+        };
+        write!(f, "#0\n$dumpvars\n{pins}{mode}$end\n{walk}")
+    }
+}
 
 // The VCD file of two charts of some ticks, which begin at tick 0. Where a chart has no stretch, the file has no values.
 pub fn write_vcd(
@@ -26,15 +67,6 @@ pub fn write_vcd(
 ) -> Result<Vec<u8>, AllocError>
     ensures { IfOk result (λ out. out.items ≡ vcd_of pins.now modes.now ticks) }
 {
-    let mut out = Vec::new(heap);
-    add_header(&mut out)?;
-    let Some((first_pins, more_pins)) = pins.split_first() else {
-        return Ok(out);
-    };
-    let Some((first_mode, more_modes)) = modes.split_first() else {
-        return Ok(out);
-    };
-    add_start(&mut out, first_pins.sample, first_mode.sample)?;
-    add_changes(&mut out, ticks, first_pins.sample, more_pins, more_modes)?;
-    Ok(out)
+    let file = Charts { pins, modes, ticks }.to_string(heap)?;
+    Ok(file.into_bytes())
 }

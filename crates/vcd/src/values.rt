@@ -1,101 +1,94 @@
-ghost use Rattle.std.specs.Prelude.{◌≤◌, OnOk};
-ghost use Rattle.vcd.specs.Adds.{Adds};
-ghost use Rattle.vcd.specs.Changes.{bit_line, bit_lines, pin_lines, changed, mode_line, tick_line, start_of};
+ghost use Rattle.std.specs.Prelude.{Some};
+ghost use Rattle.vcd.specs.Signals.{first_id};
+ghost use Rattle.vcd.specs.Values.{bit_line, bit_lines, pin_lines, mode_line};
 
-use crate::bytes::{add_bytes, add_decimal};
+use crate::signal::{Id, PINS, Signal};
 use recorder::mode::Mode;
 use recorder::pin_sample::PinSample;
-use std::alloc::AllocError;
+use recorder::stretch::{Sample, TEXT};
+use std::fmt;
 
-// How many pins there are.
-const PINS: u8 = 15;
-
-// The identifier of the first pin's level. Identifiers are one character each, and those of the other pins follow.
-pub(crate) const FIRST_LEVEL: u8 = b'!';
-
-// The identifier of the first pin's drive.
-pub(crate) const FIRST_DRIVE: u8 = FIRST_LEVEL + PINS;
-
-// A sample in which all pins are set.
-const ALL_PINS: PinSample = PinSample {
-    levels: 0x7fff,
-    drive: 0x7fff,
-};
-
-// Adds the line that begins a tick.
-pub(crate) fn add_tick(out: &mut Vec<u8>, tick: u64) -> Result<(), AllocError>
-    ensures { OnOk result (Adds out.old.items (tick_line tick) out.new.items) }
-{
-    add_bytes(out, b"#")?;
-    add_decimal(out, tick)?;
-    add_bytes(out, b"\n")
+// The lowest bit of a word, if the lowest bit of `which` is set.
+#[derive(Clone, Copy)]
+struct Bit {
+    id: Id,
+    word: u16,
+    which: u16,
 }
 
-// Adds the value of a mode, the code of its letter in binary digits.
-pub(crate) fn add_mode(out: &mut Vec<u8>, mode: Mode) -> Result<(), AllocError>
-    ensures { OnOk result (Adds out.old.items (mode_line mode) out.new.items) }
-{
-    match mode {
-        Mode::Running => add_bytes(out, b"b01010010 m\n"),
-        Mode::WakeUpTimer => add_bytes(out, b"b01010111 m\n"),
-        Mode::Stopped => add_bytes(out, b"b01010011 m\n"),
+impl fmt::Display for Bit {
+    ghost output = { λ b. Some (bit_line b.id.code b.word b.which) };
+
+    fn fmt<W: fmt::Write>(&self, f: &mut fmt::Formatter<W>) -> fmt::Result {
+        if self.which % 2 != 1 {
+            return Ok(());
+        }
+        let bit = self.word % 2;
+        let id = self.id;
+        writeln!(f, "{bit}{id}")
     }
 }
 
-// Adds the lowest bit of a word, if the lowest bit of `which` is set.
-fn add_bit(out: &mut Vec<u8>, id: u8, word: u16, which: u16) -> Result<(), AllocError>
-    ensures { OnOk result (Adds out.old.items (bit_line id word which) out.new.items) }
-{
-    if which % 2 != 1 {
-        return Ok(());
+// The pins' bits of a word that are set in `which`.
+#[derive(Clone, Copy)]
+struct Bits {
+    signal: Signal,
+    word: u16,
+    which: u16,
+}
+
+impl fmt::Display for Bits {
+    ghost output = { λ b. Some (bit_lines 15 (first_id b.signal) b.word b.which) };
+
+    fn fmt<W: fmt::Write>(&self, f: &mut fmt::Formatter<W>) -> fmt::Result {
+        for pin in 0..PINS {
+            let bit = Bit {
+                id: self.signal.id(pin),
+                word: self.word >> pin,
+                which: self.which >> pin,
+            };
+            write!(f, "{bit}")?;
+        }
+        Ok(())
     }
-    add_bytes(out, &[b'0' + (word % 2) as u8, id, b'\n'])
 }
 
-// Adds the pins' bits of a word that are set in `which`, with identifiers from `first` on.
-fn add_bits(out: &mut Vec<u8>, first: u8, word: u16, which: u16) -> Result<(), AllocError>
-    requires { first ≤ 48 }
-    ensures { OnOk result (Adds out.old.items (bit_lines 15 first word which) out.new.items) }
-{
-    let mut bits = word;
-    let mut marks = which;
-    for id in first..first + PINS {
-        add_bit(out, id, bits, marks)?;
-        bits /= 2;
-        marks /= 2;
+// The levels and drives of the pins that are set in `which`.
+#[derive(Clone, Copy)]
+pub(crate) struct PinValues {
+    pub(crate) sample: PinSample,
+    pub(crate) which: PinSample,
+}
+
+impl fmt::Display for PinValues {
+    ghost output = { λ p. Some (pin_lines p.sample p.which) };
+
+    fn fmt<W: fmt::Write>(&self, f: &mut fmt::Formatter<W>) -> fmt::Result {
+        let levels = Bits {
+            signal: Signal::Level,
+            word: self.sample.levels,
+            which: self.which.levels,
+        };
+        let drives = Bits {
+            signal: Signal::Drive,
+            word: self.sample.drive,
+            which: self.which.drive,
+        };
+        write!(f, "{levels}{drives}")
     }
-    Ok(())
 }
 
-// Adds the levels and drives of the pins that are set in `which`.
-fn add_pins(out: &mut Vec<u8>, sample: PinSample, which: PinSample) -> Result<(), AllocError>
-    ensures { OnOk result (Adds out.old.items (pin_lines sample which) out.new.items) }
-{
-    add_bits(out, FIRST_LEVEL, sample.levels, which.levels)?;
-    add_bits(out, FIRST_DRIVE, sample.drive, which.drive)
-}
+// The value of a mode, the code of its letter in binary digits.
+#[derive(Clone, Copy)]
+pub(crate) struct ModeValue(pub(crate) Mode);
 
-// Adds the levels and drives in which a sample differs from the one before it.
-pub(crate) fn add_changed_pins(
-    out: &mut Vec<u8>,
-    before: PinSample,
-    sample: PinSample,
-) -> Result<(), AllocError>
-    ensures { OnOk result (Adds out.old.items (pin_lines sample (changed before sample)) out.new.items) }
-{
-    let which = PinSample {
-        levels: before.levels ^ sample.levels,
-        drive: before.drive ^ sample.drive,
-    };
-    add_pins(out, sample, which)
-}
+impl fmt::Display for ModeValue {
+    ghost output = { λ m. Some (mode_line m.0) };
 
-// Adds all values, as they stand at tick 0.
-pub(crate) fn add_start(out: &mut Vec<u8>, pins: PinSample, mode: Mode) -> Result<(), AllocError>
-    ensures { OnOk result (Adds out.old.items (start_of pins mode) out.new.items) }
-{
-    add_bytes(out, b"#0\n$dumpvars\n")?;
-    add_pins(out, pins, ALL_PINS)?;
-    add_mode(out, mode)?;
-    add_bytes(out, b"$end\n")
+    fn fmt<W: fmt::Write>(&self, f: &mut fmt::Formatter<W>) -> fmt::Result {
+        let mut text = [0; TEXT];
+        let _ = self.0.write_text(&mut text);
+        let letter = text[0];
+        writeln!(f, "b{letter:08b} m")
+    }
 }

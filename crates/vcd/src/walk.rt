@@ -1,12 +1,14 @@
-ghost use Rattle.std.specs.Prelude.{◌≡◌, ◌+◌, length, IfOk, OnOk};
-ghost use Rattle.vcd.specs.Adds.{Adds};
-ghost use Rattle.vcd.specs.Changes.{next_or, past, pins_at, shown_at, mode_at, next_tick, changes_of};
+ghost use Rattle.std.specs.Prelude.{◌≡◌, Some};
+ghost use Rattle.std.specs.Iterator.{YieldsFirst, item_count};
+ghost use Rattle.vcd.specs.Changes.{next_or, sample_at, past, change_text, changes_left, walk_text};
 
-use crate::values::{add_changed_pins, add_mode, add_tick};
+use crate::values::{ModeValue, PinValues};
 use recorder::mode::Mode;
 use recorder::pin_sample::PinSample;
 use recorder::stretch::Stretch;
-use std::alloc::AllocError;
+use std::fmt;
+
+// The walk holds two slices and no `Peekable`: a slice shows its first stretch with no peeked one kept beside it.
 
 // The tick at which the first stretch begins, or `end` if there is none.
 fn next_or<S>(end: u64, stretches: &[Stretch<S>]) -> u64
@@ -18,11 +20,14 @@ fn next_or<S>(end: u64, stretches: &[Stretch<S>]) -> u64
     }
 }
 
-// The first tick at which a stretch of either chart begins, or `end`.
-fn next_tick(end: u64, pins: &[Stretch<PinSample>], modes: &[Stretch<Mode>]) -> u64
-    ensures { result ≡ next_tick end pins.now modes.now }
+// The sample of the first stretch, if it begins at a tick.
+fn sample_at<S: Copy>(tick: u64, stretches: &[Stretch<S>]) -> Option<S>
+    ensures { result ≡ sample_at tick stretches.now }
 {
-    next_or(end, pins).min(next_or(end, modes))
+    match stretches {
+        [first, ..] if first.offset == tick => Some(first.sample),
+        _ => None,
+    }
 }
 
 // The stretches without the first if it begins at a tick.
@@ -35,53 +40,79 @@ fn past_tick<S>(tick: u64, stretches: &[Stretch<S>]) -> &[Stretch<S>]
     }
 }
 
-// Adds what a pin stretch changes that begins at a tick, and answers what the pins show then.
-fn add_pins_at(
-    out: &mut Vec<u8>,
+// What changes at a tick: what the pins show before and at it, and the mode that begins.
+#[derive(Clone, Copy)]
+pub(crate) struct Change {
     tick: u64,
     before: PinSample,
-    pins: &[Stretch<PinSample>],
-) -> Result<PinSample, AllocError>
-    ensures shown { IfOk result (λ s. s ≡ shown_at tick before pins.now) }
-    ensures added { OnOk result (Adds out.old.items (pins_at tick before pins.now) out.new.items) }
-{
-    match pins {
-        [first, ..] if first.offset == tick => {
-            add_changed_pins(out, before, first.sample)?;
-            Ok(first.sample)
+    shown: PinSample,
+    mode: Option<Mode>,
+}
+
+impl fmt::Display for Change {
+    ghost output = { λ c. Some (change_text c) };
+
+    fn fmt<W: fmt::Write>(&self, f: &mut fmt::Formatter<W>) -> fmt::Result {
+        let tick = self.tick;
+        let pins = PinValues {
+            sample: self.shown,
+            which: PinSample {
+                levels: self.before.levels ^ self.shown.levels,
+                drive: self.before.drive ^ self.shown.drive,
+            },
+        };
+        write!(f, "#{tick}\n{pins}")?;
+        match self.mode {
+            Some(mode) => write!(f, "{}", ModeValue(mode)),
+            None => Ok(()),
         }
-        _ => Ok(before),
     }
 }
 
-// Adds the mode of a mode stretch that begins at a tick.
-fn add_mode_at(out: &mut Vec<u8>, tick: u64, modes: &[Stretch<Mode>]) -> Result<(), AllocError>
-    ensures { OnOk result (Adds out.old.items (mode_at tick modes.now) out.new.items) }
-{
-    match modes {
-        [first, ..] if first.offset == tick => add_mode(out, first.sample),
-        _ => Ok(()),
+// The changes at each tick at which a stretch begins, up to `end`. Before the first one the pins show `shown`.
+#[derive(Clone, Copy)]
+pub(crate) struct Walk<'a> {
+    pub(crate) end: u64,
+    pub(crate) shown: PinSample,
+    pub(crate) pins: &'a [Stretch<PinSample>],
+    pub(crate) modes: &'a [Stretch<Mode>],
+}
+
+impl<'a> Iterator for Walk<'a> {
+    type Item = Change;
+
+    ghost next_gives = { YieldsFirst changes_left };
+
+    ghost remaining = { item_count changes_left };
+
+    fn next(&mut self) -> Option<Change> {
+        let tick = next_or(self.end, self.pins).min(next_or(self.end, self.modes));
+        if tick >= self.end {
+            return None;
+        }
+        let before = self.shown;
+        let shown = sample_at(tick, self.pins).unwrap_or(before);
+        let mode = sample_at(tick, self.modes);
+        self.shown = shown;
+        self.pins = past_tick(tick, self.pins);
+        self.modes = past_tick(tick, self.modes);
+        Some(Change {
+            tick,
+            before,
+            shown,
+            mode,
+        })
     }
 }
 
-// Adds each tick at which a stretch begins with what changes at it, and `end`. Before the first one the pins show `shown`.
-pub(crate) fn add_changes(
-    out: &mut Vec<u8>,
-    end: u64,
-    mut shown: PinSample,
-    mut pins: &[Stretch<PinSample>],
-    mut modes: &[Stretch<Mode>],
-) -> Result<(), AllocError>
-    ensures { OnOk result (Adds out.old.items (changes_of (length pins.now + length modes.now) end shown pins.now modes.now) out.new.items) }
-{
-    let mut tick = next_tick(end, pins, modes);
-    while tick < end {
-        add_tick(out, tick)?;
-        shown = add_pins_at(out, tick, shown, pins)?;
-        add_mode_at(out, tick, modes)?;
-        pins = past_tick(tick, pins);
-        modes = past_tick(tick, modes);
-        tick = next_tick(end, pins, modes);
+impl fmt::Display for Walk<'_> {
+    ghost output = { λ w. Some (walk_text w) };
+
+    fn fmt<W: fmt::Write>(&self, f: &mut fmt::Formatter<W>) -> fmt::Result {
+        for change in *self {
+            write!(f, "{change}")?;
+        }
+        let end = self.end;
+        writeln!(f, "#{end}")
     }
-    add_tick(out, end)
 }
