@@ -1,4 +1,4 @@
-ghost use Rattle.std.specs.Prelude.{◌≡◌, length, IfOk};
+ghost use Rattle.std.specs.Prelude.{◌≡◌, ◌==◌, length, is_some, IfOk, IfSome};
 ghost use Rattle.bench.specs.Charting.{both};
 ghost use Rattle.wave.specs.Waves.{ran_of, wave_of};
 
@@ -17,20 +17,20 @@ pub(crate) struct Wave {
     pub(crate) file: Vec<u8>,
 }
 
-// Plays the image of an input for the grant behind it.
+// Plays the image of an input for the grant behind it. None where the input is not just an image and a grant.
 pub(crate) fn wave_of(
     heap: Global,
     input: &[u8],
     pins: &mut [Stretch<PinSample>],
     modes: &mut [Stretch<Mode>],
-) -> Result<Wave, AllocError>
-    requires { length input.now ≡ 2052 }
-    ensures ticks { IfOk result (λ w. w.run.ticks ≡ (ran_of input.now (both pins.old modes.old)).ticks) }
-    ensures fault { IfOk result (λ w. w.run.fault ≡ (ran_of input.now (both pins.old modes.old)).fault) }
-    ensures file { IfOk result (λ w. w.file.items ≡ wave_of (ran_of input.now (both pins.old modes.old))) }
+) -> Result<Option<Wave>, AllocError>
+    ensures size { IfOk result (λ o. is_some o ≡ (length input.now == 2052)) }
+    ensures ticks { IfOk result (λ o. IfSome o (λ w. w.run.ticks ≡ (ran_of input.now (both pins.old modes.old)).ticks)) }
+    ensures fault { IfOk result (λ o. IfSome o (λ w. w.run.fault ≡ (ran_of input.now (both pins.old modes.old)).fault)) }
+    ensures file { IfOk result (λ o. IfSome o (λ w. w.file.items ≡ wave_of (ran_of input.now (both pins.old modes.old)))) }
 {
     let Some(charted) = chart_input(input, pins, modes) else {
-        unreachable()
+        return Ok(None);
     };
     let run = charted.run;
     let counted_pins = charted.held.stretches.pins;
@@ -41,5 +41,5 @@ pub(crate) fn wave_of(
         &modes[0..counted_modes],
         run.ticks,
     )?;
-    Ok(Wave { run, file })
+    Ok(Some(Wave { run, file }))
 }

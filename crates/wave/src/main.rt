@@ -5,45 +5,27 @@ mod image;
 
 use anyhow::anyhow;
 use image::wave_of;
-use recorder::mode::Mode;
-use recorder::pin_sample::PinSample;
 use recorder::stretch::Stretch;
-use runchart::print::INPUT;
 use std::io::{Read, Write};
 
 // How many stretches each chart has places for.
 const PLACES: usize = 65536;
 
-const NO_PINS: Stretch<PinSample> = Stretch {
-    offset: 0,
-    length: 0,
-    sample: PinSample {
-        levels: 0,
-        drive: 0,
-    },
-};
-
-const NO_MODE: Stretch<Mode> = Stretch {
-    offset: 0,
-    length: 0,
-    sample: Mode::Running,
-};
-
-// Writes the file. Another size than an image and a grant is an error, and then nothing is written: an empty file would look like a run.
-fn run(rt: &HostRuntime) -> anyhow::Result<()> {
+// Another size than an image and a grant is an error, and then nothing is written: an empty file would look like a run.
+fn main(rt: HostRuntime) -> anyhow::Result<()> {
     let mut input = Vec::new(rt.alloc());
     rt.stdin().read_to_end(&mut input)?;
-    if input.len() != INPUT {
-        return Err(anyhow!("expected 2052 bytes: an image of 2048 and a grant of 4"));
-    }
-    let mut pins = vec![in rt.alloc(); NO_PINS; PLACES]?;
-    let mut modes = vec![in rt.alloc(); NO_MODE; PLACES]?;
-    let wave = wave_of(
+    let mut pins = vec![in rt.alloc(); Stretch::default(); PLACES]?;
+    let mut modes = vec![in rt.alloc(); Stretch::default(); PLACES]?;
+    let Some(wave) = wave_of(
         rt.alloc(),
         input.as_slice(),
         pins.as_mut_slice(),
         modes.as_mut_slice(),
-    )?;
+    )?
+    else {
+        return Err(anyhow!("expected 2052 bytes: an image of 2048 and a grant of 4"));
+    };
     rt.stdout().write_all(wave.file.as_slice())?;
     if let Some(fault) = wave.run.fault {
         let ticks = wave.run.ticks;
@@ -51,8 +33,4 @@ fn run(rt: &HostRuntime) -> anyhow::Result<()> {
         eprintln!(rt; "stopped after {ticks} ticks with fault {number}")?;
     }
     Ok(())
-}
-
-fn main(rt: HostRuntime) -> anyhow::Result<()> {
-    run(&rt)
 }
