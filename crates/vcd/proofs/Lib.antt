@@ -1,3 +1,4 @@
 mod Counting
+mod Unchanged
 mod Walking
 mod Whole
