@@ -13,7 +13,8 @@ use Rattle.counters.specs.declared.timer.Matches.{Matches}
 use Rattle.counters.specs.declared.buzzer.Buzzer.{Buzzer}
 use Rattle.counters.specs.declared.basic.BasicTimer.{BasicTimer}
 use Rattle.counters.specs.declared.basic.Passing.{Passing}
-use Rattle.counters.specs.Counting.{flip, pulse, counted, run_on, still_for, fewer}
+use Rattle.ticks.specs.Ticks.{sooner}
+use Rattle.counters.specs.Counting.{flip, pulse, counted, run_on, still_for}
 use Rattle.counters.specs.Timers.{timer, drive0, drive1, source0, source1, pulses, timer_ticked, timer_moved, timer_still, at, of0, of1, timers_moved}
 use Rattle.counters.specs.Buzzers.{buzzer_shift, buzzer_limit, buzzer_pulsed, buzzer_moved, buzzer_still}
 use Rattle.counters.specs.Basic.{at_limit, basic_shift, basic_moved, basic_still}
@@ -31,7 +32,7 @@ pub unbounded : {Quiet : ℕ → Type 0} → ((j : ℕ) → Quiet j) → Longest
 unbounded q = record { quiet = λ j _. q j; ends = λ j e _. never e }
 
 -- where one of two things ends, both do
-pub longest_both : {P Q R : ℕ → Type 0} (a b : Option ℕ) → Longest a P → Longest b Q → ((j : ℕ) → P j → Q j → R j) → ((j : ℕ) → R j → P j × Q j) → Longest (fewer a b) R
+pub longest_both : {P Q R : ℕ → Type 0} (a b : Option ℕ) → Longest a P → Longest b Q → ((j : ℕ) → P j → Q j → R j) → ((j : ℕ) → R j → P j × Q j) → Longest (sooner a b) R
 longest_both None None p q f g = unbounded (λ j. f j (p.quiet j tt) (q.quiet j tt))
 longest_both None (Some v) p q f g = record { quiet = λ j h. f j (p.quiet j tt) (q.quiet j h); ends = λ j e r. q.ends j e (g j r).1 }
 longest_both (Some u) None p q f g = record { quiet = λ j h. f j (p.quiet j h) (q.quiet j tt); ends = λ j e r. p.ends j e (g j r).0 }
@@ -110,10 +111,10 @@ module _ (mode : Mode) (p : ℕ) (x y : Timer) (comp : Bool) where
 abbrev from : List Timer → Bool → Timers
 from pair comp = record { pair = pair; comp = comp }
 
-pub pair_longest : (mode : Mode) (p : ℕ) (ts : Timers) (r0 r1 : Option ℕ) → length ts.pair ≡ 2 → Longest r0 (TimerQuiet (of0 mode ts) p (at ts 0)) → Longest r1 (TimerQuiet (of1 mode ts) p (at ts 1)) → Longest (fewer r0 r1) (TimersQuiet mode p ts)
+pub pair_longest : (mode : Mode) (p : ℕ) (ts : Timers) (r0 r1 : Option ℕ) → length ts.pair ≡ 2 → Longest r0 (TimerQuiet (of0 mode ts) p (at ts 0)) → Longest r1 (TimerQuiet (of1 mode ts) p (at ts 1)) → Longest (sooner r0 r1) (TimersQuiet mode p ts)
 pair_longest mode p ts r0 r1 two = go ts.pair ts.comp two
   where
-    go : (pair : List Timer) (comp : Bool) → length pair ≡ 2 → Longest r0 (TimerQuiet (of0 mode (from pair comp)) p (at (from pair comp) 0)) → Longest r1 (TimerQuiet (of1 mode (from pair comp)) p (at (from pair comp) 1)) → Longest (fewer r0 r1) (TimersQuiet mode p (from pair comp))
+    go : (pair : List Timer) (comp : Bool) → length pair ≡ 2 → Longest r0 (TimerQuiet (of0 mode (from pair comp)) p (at (from pair comp) 0)) → Longest r1 (TimerQuiet (of1 mode (from pair comp)) p (at (from pair comp) 1)) → Longest (sooner r0 r1) (TimersQuiet mode p (from pair comp))
     go [] comp n a b = absurd (omega arith)
     go (x ∷ []) comp n a b = absurd (omega arith)
     go (x ∷ y ∷ []) comp n a b = longest_both r0 r1 a b (together mode p x y comp) (apart mode p x y comp)

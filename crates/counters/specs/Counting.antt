@@ -40,9 +40,3 @@ before_pulse s p g = (p / 2 ^ s + g + 1) * 2 ^ s - p - 1
 -- the ticks before the one that matches
 abbrev pub still_for : ℕ → ℕ → ℕ → ℕ → ℕ → ℕ
 still_for M s p limit count = before_pulse s p (gap M limit count)
-
--- the fewer of two numbers of ticks, where none is no bound
-abbrev pub fewer : Option ℕ → Option ℕ → Option ℕ
-fewer None q = q
-fewer (Some u) None = Some u
-fewer (Some u) (Some v) = Some (min u v)

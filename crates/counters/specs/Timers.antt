@@ -1,5 +1,6 @@
 -- Timer 0 and Timer 1.
 use Rattle.std.specs.Prelude.{ℕ, ◌/◌, ◌%◌, Bool, false, cond, ◌&&◌, [], ◌∷◌, Some, None, Option, ◌==◌, slice_index_or, slice_set}
+use Rattle.ticks.specs.Ticks.{sooner}
 use Rattle.recorder.specs.declared.mode.Mode.{Mode}
 use Rattle.recorder.specs.declared.mode.Mode.TheVariants.{Running, WakeUpTimer}
 use Rattle.counters.specs.declared.timer.Timer.{Timer}
@@ -7,7 +8,7 @@ use Rattle.counters.specs.declared.timer.Timers.{Timers}
 use Rattle.counters.specs.declared.timer.Matches.{Matches}
 use Rattle.counters.specs.declared.timer.Source.{Source}
 use Rattle.counters.specs.declared.timer.Source.TheVariants.{Divider, Event, Held}
-use Rattle.counters.specs.Counting.{awake, flip, pulse, counted, run_on, still_for, fewer}
+use Rattle.counters.specs.Counting.{awake, flip, pulse, counted, run_on, still_for}
 
 abbrev pub timer : ℕ → ℕ → ℕ → Timer
 timer control limit count = record { control = control; limit = limit; count = count }
@@ -88,7 +89,7 @@ timers_moved mode p k ts = timers (timer_moved (of0 mode ts) p k (at ts 0)) (tim
 
 -- the ticks before a match
 abbrev pub timers_still : Mode → ℕ → Timers → Option ℕ
-timers_still mode p ts = fewer (timer_still (of0 mode ts) p (at ts 0)) (timer_still (of1 mode ts) p (at ts 1))
+timers_still mode p ts = sooner (timer_still (of0 mode ts) p (at ts 0)) (timer_still (of1 mode ts) p (at ts 1))
 
 -- a write of TM; one with ST set clears the count
 abbrev pub timer_set : ℕ → Timer → Timer

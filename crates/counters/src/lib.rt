@@ -7,5 +7,4 @@ pub mod buzzer;
 mod count;
 pub mod divider;
 mod mode;
-pub mod span;
 pub mod timer;

@@ -5,8 +5,8 @@ ghost use Rattle.counters.specs.Quiet.{Longest, TimerQuiet, TimersQuiet};
 use crate::count::counted;
 use crate::divider::Divider;
 use crate::mode::is_awake;
-use crate::span::fewer_ticks;
 use recorder::mode::Mode;
+use ticks::sooner;
 
 // What a timer counts: pulses of a divider, rises of EC0, or nothing.
 #[derive(Clone, Copy, PartialEq, Eq, Debug)]
@@ -229,7 +229,7 @@ impl Timers {
         let source0 = self.source0(mode);
         let source1 = self.source1(mode);
         let [timer0, timer1] = self.pair;
-        fewer_ticks(
+        sooner(
             timer0.still(source0, prescaler),
             timer1.still(source1, prescaler),
         )

@@ -1,8 +1,9 @@
 ghost use Rattle.std.specs.Prelude.{bit_or};
-ghost use Rattle.hosts.specs.Marks.{lower};
+ghost use Rattle.ticks.specs.Ticks.{sooner};
 ghost use Rattle.hosts.specs.Words.{or_below};
 
 use crate::host::PinHost;
+use ticks::sooner;
 
 // Two hosts on the same pins.
 #[derive(Drop)]
@@ -14,7 +15,7 @@ pub struct Join<L, R> {
 impl<L: PinHost, R: PinHost> PinHost for Join<L, R> {
     ghost meaning = { λ s t. bit_or (L.PinHost.meaning s.left t) (R.PinHost.meaning s.right t) };
 
-    ghost mark = { λ s t. lower (L.PinHost.mark s.left t) (R.PinHost.mark s.right t) };
+    ghost mark = { λ s t. sooner (L.PinHost.mark s.left t) (R.PinHost.mark s.right t) };
 
     ghost words = { λ s t. or_below (L.PinHost.meaning s.left t) (R.PinHost.meaning s.right t) (L.PinHost.words s.left t) (R.PinHost.words s.right t) };
 
@@ -23,10 +24,6 @@ impl<L: PinHost, R: PinHost> PinHost for Join<L, R> {
     }
 
     fn quiet_mark(&self, t: u64) -> Option<u64> {
-        match (self.left.quiet_mark(t), self.right.quiet_mark(t)) {
-            (None, right) => right,
-            (left, None) => left,
-            (Some(u), Some(v)) => Some(u.min(v)),
-        }
+        sooner(self.left.quiet_mark(t), self.right.quiet_mark(t))
     }
 }

@@ -15,7 +15,8 @@ use Rattle.counters.specs.declared.timer.Source.TheVariants.{Held}
 use Rattle.counters.specs.declared.buzzer.Buzzer.{Buzzer}
 use Rattle.counters.specs.declared.basic.BasicTimer.{BasicTimer}
 use Rattle.counters.specs.declared.basic.Passing.{Passing}
-use Rattle.counters.specs.Counting.{awake, flip, fewer}
+use Rattle.ticks.specs.Ticks.{sooner}
+use Rattle.counters.specs.Counting.{awake, flip}
 use Rattle.counters.specs.Timers.{counts, at, pulses, timer_ticked, timers, timers_ticked, timers_moved}
 use Rattle.counters.specs.Buzzers.{buzzer_ticked, buzzer_moved}
 use Rattle.counters.specs.Basic.{basic_ticked, basic_moved}
@@ -179,7 +180,7 @@ module _ (m : Machine) (image : List ℕ) (w j : ℕ) where
 
 module _ (m : Machine) (t b d : Option ℕ) (T : Longest t (TimersQuiet m.parts.mode m.prescaler m.parts.timers)) (B : Longest b (BuzzerQuiet m.parts.mode m.prescaler m.parts.buzzer)) (D : Longest d (BasicQuiet m.parts.mode m.prescaler m.parts.basic)) where
   abbrev span : Option ℕ
-  span = fewer (rest_for m) (fewer t (fewer b d))
+  span = sooner (rest_for m) (sooner t (sooner b d))
 
   span_longest : (image : List ℕ) (w : ℕ) → Longest span (QuietTick m image w)
   span_longest image w =

@@ -1,7 +1,8 @@
 -- The quiet span: how many of the next ticks change nothing but running counts, and the move over them.
 use Rattle.std.specs.Prelude.{◌≡◌, ℕ, zero, suc, ◌+◌, ◌-◌, ◌<◌, ◌≤◌, false, cond, ◌||◌, List, Some, None, Ok, Option, Result}
 use Rattle.faults.specs.declared.Fault.{Fault}
-use Rattle.counters.specs.Counting.{awake, fewer}
+use Rattle.ticks.specs.Ticks.{sooner}
+use Rattle.counters.specs.Counting.{awake}
 use Rattle.counters.specs.Timers.{timers_moved, timers_still}
 use Rattle.counters.specs.Buzzers.{buzzer_moved, buzzer_still}
 use Rattle.counters.specs.Basic.{basic_moved, basic_still}
@@ -20,7 +21,7 @@ rest_for m = cond (awake m.parts.mode || wakes m.parts.requests) (Some m.owed) N
 abbrev pub still_for : Machine → Option ℕ
 still_for m =
     let p = m.parts in
-    fewer (rest_for m) (fewer (timers_still p.mode m.prescaler p.timers) (fewer (buzzer_still p.mode m.prescaler p.buzzer) (basic_still p.mode m.prescaler p.basic)))
+    sooner (rest_for m) (sooner (timers_still p.mode m.prescaler p.timers) (sooner (buzzer_still p.mode m.prescaler p.buzzer) (basic_still p.mode m.prescaler p.basic)))
 
 -- k quiet ticks at once: only the counts, the prescaler and the owed ticks change
 abbrev pub moved : ℕ → Machine → Machine

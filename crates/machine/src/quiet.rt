@@ -5,8 +5,8 @@ ghost use Rattle.machine.specs.Quiet.{rest_for, still_for, moved, Sound, Span};
 
 use crate::prescaler::run_prescaler;
 use crate::state::Machine;
-use counters::span::fewer_ticks;
 use recorder::mode::Mode;
+use ticks::sooner;
 
 impl Machine {
     // Whether the chip is awake, or a request wakes it.
@@ -32,7 +32,7 @@ impl Machine {
         let timers = self.parts.timers.still(mode, self.prescaler);
         let buzzer = self.parts.buzzer.still(mode, self.prescaler);
         let basic = self.parts.basic.still(mode, self.prescaler);
-        fewer_ticks(self.rest(), fewer_ticks(timers, fewer_ticks(buzzer, basic)))
+        sooner(self.rest(), sooner(timers, sooner(buzzer, basic)))
     }
 
     // Takes `ticks` quiet ticks at once.

@@ -10,7 +10,6 @@ pub fn sooner(a: Option<u64>, b: Option<u64>) -> Option<u64>
 {
     match (a, b) {
         (Some(u), Some(v)) => Some(u.min(v)),
-        (Some(u), None) | (None, Some(u)) => Some(u),
-        (None, None) => None,
+        (bound, None) | (None, bound) => bound,
     }
 }

@@ -9,6 +9,6 @@ returns c =
     let two : length c.args.self.now.pair ≡ 2 = search rules in
     record {
       value = search rules;
-      longest = rw c.fewer_ticks.ensures (pair_longest _ _ _ _ _ two (rw zero at c.still.ensures.longest) (rw one at c.still-2.ensures.longest));
+      longest = rw c.sooner.ensures (pair_longest _ _ _ _ _ two (rw zero at c.still.ensures.longest) (rw one at c.still-2.ensures.longest));
       starts = pair_starts _ _ _ (rw zero at c.still.ensures.starts) (rw one at c.still-2.ensures.starts);
     }

@@ -10,6 +10,6 @@ returns c =
     record {
       value = search rules;
       span = λ sound.
-          rw (c.fewer_ticks-3.ensures, c.rest.ensures, c.fewer_ticks-2.ensures, c.fewer_ticks.ensures)
+          rw (c.sooner-3.ensures, c.rest.ensures, c.sooner-2.ensures, c.sooner.ensures)
           (span_of c.args.self.now _ _ _ t.longest (b.longest sound.buzzer) d.longest (starts_from c.args.self.now sound.prescaler t.starts (b.starts sound.buzzer) d.starts));
     }
