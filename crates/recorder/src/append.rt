@@ -4,6 +4,8 @@ ghost use Rattle.recorder.specs.Histories.{Adds};
 
 use crate::stretch::{Sample, Stretch};
 
+// A chart is a slice of the caller's, with a count that the caller keeps: the library allocates nothing, so it owns neither.
+
 // Whether the chart has the counted places and the last counted stretch ends at `tick`.
 pub fn fits<S: Sample>(chart: &[Stretch<S>], count: usize, tick: u64) -> bool
     ensures { result ≡ fitting S.kind chart.now count tick }
