@@ -37,6 +37,7 @@ pulse_in (Word w) = None
 pulse_in (PulseLine p) = Some p
 pulse_in (WaveLine w) = None
 
+-- what `?` does. The library has this for options, and not for results
 abbrev pub and_then : {X Y E : Type 0} → Result X E → (X → Result Y E) → Result Y E
 and_then (Ok x) f = f x
 and_then (Err e) f = Err e
