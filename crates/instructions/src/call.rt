@@ -45,7 +45,7 @@ pub(crate) fn table_call(parts: &mut Parts, view: &View, n: u8) -> Result<(), Fa
     call_at(parts, view.pc, address)
 }
 
-// Pushes PC and PSW, clears I, and goes to a vector's word. `view.pc` is what a fault names.
+// Pushes PC and PSW, clears I, and goes to a vector's word. `pc` is what a fault names: there is no host's word, and so no `View`.
 pub fn interrupt(parts: &mut Parts, image: &[u8], pc: u16, vector: u16) -> Result<(), Fault>
     ensures { after result parts.new ≡ interrupted parts.old image.now pc vector }
 {

@@ -8,6 +8,7 @@ use bus::view::View;
 use faults::Fault;
 use sheet::operation::{AluOp, Bit, Index, Operand, Place, Saved, ShiftOp, Target};
 
+// This, LDX and CMPX differ in what the registers do with the byte: a closure's contract would be longer than these bodies.
 // ADC, SBC, CMP, OR, AND, EOR and LDA.
 pub(crate) fn calculate(
     parts: &mut Parts,
@@ -92,7 +93,7 @@ fn with_bit(v: u8, bit: Bit, on: bool) -> u8
     if on { v | mask } else { v & !mask }
 }
 
-// SET1 and CLR1.
+// SET1 and CLR1. As in `shift`, the byte's change stands between its read and its write: a closure for it would need a longer contract.
 pub(crate) fn put_bit(parts: &mut Parts, view: &View, bit: Bit, on: bool) -> Result<(), Fault>
     ensures { after result parts.new ≡ bit_put parts.old (seen view.now) bit on }
 {
