@@ -1,11 +1,16 @@
 -- The description of an experiment.
-use Rattle.std.specs.Prelude.{ℕ, ◌+◌, ◌*◌, Bool, cond, ◌&&◌, List, length, Some, None, Option, ◌==◌, nat_le, nat_lt}
-use Rattle.capi.specs.declared.description.Wiring.{Wiring}
-use Rattle.capi.specs.declared.description.Wiring.TheVariants as w
-use Rattle.capi.specs.declared.description.Wave.{Wave}
-use Rattle.capi.specs.declared.description.Sizes.{Sizes}
-use Rattle.capi.specs.declared.description.Experiment.{Experiment}
-use Rattle.capi.specs.Bytes.{word_at, double_at}
+use Rattle.std.specs.Prelude.{ℕ, ◌+◌, ◌*◌, Bool, cond, not, ◌&&◌, List, length, map, take, Some, None, Option, ◌==◌, nat_le, nat_lt, slice_index, slice_range}
+use Rattle.std.specs.List.{range_with_len}
+use Rattle.hosts.specs.declared.pulse.Pulse.{Pulse}
+use Rattle.bench.specs.declared.held.Way.{Way}
+use Rattle.bench.specs.declared.held.Way.TheVariants.{Ticks, Leaps}
+use Rattle.capi.specs.declared.experiment.Wiring.{Wiring}
+use Rattle.capi.specs.declared.experiment.Wiring.TheVariants as w
+use Rattle.capi.specs.declared.experiment.Wave.{Wave}
+use Rattle.capi.specs.declared.experiment.Sizes.{Sizes}
+use Rattle.capi.specs.declared.experiment.Experiment.{Experiment}
+use Rattle.capi.specs.declared.experiment.Asked.{Asked}
+use Rattle.capi.specs.Bytes.{word_at, double_at, quad_at}
 
 abbrev pub wiring_of : ℕ → Option Wiring
 wiring_of n =
@@ -36,3 +41,34 @@ wired b (Some wiring) = Some (numbers_of b wiring)
 
 abbrev pub described : List ℕ → Option Experiment
 described b = cond (nat_lt (length b) 2210) None (cond (fits (sizes_of b) (length b)) (wired b (wiring_of (word_at b 2176))) None)
+
+-- the image, or all of it but the last byte
+abbrev pub image_of : Bool → List ℕ → List ℕ
+image_of short b = take (cond short 2047 2048) b
+
+abbrev pub ram_of : List ℕ → List ℕ
+ram_of b = slice_range b 2048 2176
+
+-- pulse k of those behind the numbers
+abbrev pub pulse_of : List ℕ → ℕ → Pulse
+pulse_of b k = record { offset = quad_at b (2210 + 16 * k); length = quad_at b (2210 + 16 * k + 8) }
+
+abbrev pub pulses_of : List ℕ → ℕ → List Pulse
+pulses_of b n = map (pulse_of b) (range_with_len 0 n)
+
+abbrev is_set : ℕ → Bool
+is_set byte = not (byte == 0)
+
+abbrev way_of : Bool → Way
+way_of leaps = cond leaps Leaps Ticks
+
+-- how a call goes, its image, and its grant
+abbrev pub asked_at : List ℕ → ℕ → Asked
+asked_at b i = record { call = record { way = way_of (is_set (slice_index b i)); grant = quad_at b (i + 2) }; short = is_set (slice_index b (i + 1)) }
+
+-- call k of those behind the pulses
+abbrev pub asked_of : List ℕ → Sizes → ℕ → Asked
+asked_of b s k = asked_at b (2210 + 16 * s.pulses + 10 * k)
+
+abbrev pub calls_of : List ℕ → Sizes → List Asked
+calls_of b s = map (asked_of b s) (range_with_len 0 s.calls)

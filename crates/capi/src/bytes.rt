@@ -1,24 +1,34 @@
-ghost use Rattle.std.specs.Prelude.{◌≡◌, ◌+◌, ◌≤◌, length};
+ghost use Rattle.std.specs.Prelude.{◌≡◌, ◌+◌, ◌≤◌, length, slice_range};
 ghost use Rattle.capi.specs.Bytes.{word_at, double_at, quad_at};
+
+// The N bytes from a place on.
+pub(crate) fn bytes_at<const N: usize>(bytes: &[u8], at: usize) -> [u8; N]
+    requires { at + N ≤ length bytes.now }
+    ensures { result ≡ slice_range bytes.now at (at + N) }
+{
+    let mut copy = [0; N];
+    copy.copy_from_slice(&bytes[at..at + N]);
+    copy
+}
 
 // Numbers of two, four and eight bytes, low bytes first.
 pub(crate) fn word_at(bytes: &[u8], at: usize) -> u16
     requires { at + 2 ≤ length bytes.now }
     ensures { result ≡ word_at bytes.now at }
 {
-    bytes[at] as u16 + 256 * bytes[at + 1] as u16
+    u16::from_le_bytes(bytes_at(bytes, at))
 }
 
 pub(crate) fn double_at(bytes: &[u8], at: usize) -> u32
     requires { at + 4 ≤ length bytes.now }
     ensures { result ≡ double_at bytes.now at }
 {
-    word_at(bytes, at) as u32 + 65536 * word_at(bytes, at + 2) as u32
+    u32::from_le_bytes(bytes_at(bytes, at))
 }
 
 pub(crate) fn quad_at(bytes: &[u8], at: usize) -> u64
     requires { at + 8 ≤ length bytes.now }
     ensures { result ≡ quad_at bytes.now at }
 {
-    double_at(bytes, at) as u64 + 4294967296 * double_at(bytes, at + 4) as u64
+    u64::from_le_bytes(bytes_at(bytes, at))
 }

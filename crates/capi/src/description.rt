@@ -1,141 +1,76 @@
-ghost use Rattle.std.specs.Prelude.{◌≡◌, ◌+◌, ◌≤◌, length};
-ghost use Rattle.capi.specs.Describing.{wiring_of, wave_at, sizes_of, fits, numbers_of, described};
+ghost use Rattle.std.specs.Prelude.{◌≡◌, ◌+◌, ◌*◌, ◌<◌, ◌≤◌, length, Some, None, MatchResult};
+ghost use Rattle.capi.specs.Describing.{described, image_of, ram_of, pulse_of, pulses_of, asked_of};
 
-use crate::bytes::{double_at, word_at};
+use crate::bytes::{bytes_at, quad_at};
+use crate::experiment::{Asked, BODY, CALL, Experiment, PULSE};
+use crate::refusal::Refusal;
 use bench::calls::RAM;
 use bench::run::IMAGE;
+use hosts::pulse::Pulse;
 
-// The most places of a chart, and the most pulses.
-pub(crate) const PLACES: usize = 2048;
-
-pub(crate) const PULSES: usize = 4096;
-
-// Where the numbers behind image and RAM begin, and where the pulses behind these.
-const NUMBERS: usize = IMAGE + RAM;
-
-pub(crate) const BODY: usize = NUMBERS + 34;
-
-// The bytes of a pulse and of a call.
-pub(crate) const PULSE: usize = 16;
-
-pub(crate) const CALL: usize = 10;
-
-// Which hosts are wired to the pins.
+// A good description.
 #[derive(Clone, Copy)]
-pub enum Wiring {
-    Steady,
-    Pulses,
-    Wave,
-    PulsesAndWave,
-    All,
+pub(crate) struct Description<'a> {
+    bytes: &'a [u8],
+    pub(crate) experiment: Experiment,
+    ghost said: { described bytes.now ≡ Some experiment },
+    ghost pins: { experiment.sizes.pins ≤ 2048 },
+    ghost modes: { experiment.sizes.modes ≤ 2048 },
+    ghost pulses: { experiment.sizes.pulses ≤ 4096 },
+    ghost long: { length bytes.now ≡ 2210 + 16 * experiment.sizes.pulses + 10 * experiment.sizes.calls },
 }
 
-// The numbers of a square wave.
-#[derive(Clone, Copy)]
-pub struct Wave {
-    pub word: u16,
-    pub low: u32,
-    pub high: u32,
-}
+impl<'a> Description<'a> {
+    // The description that these bytes are, if it is a good one.
+    pub(crate) fn read(bytes: &'a [u8]) -> Result<Self, Refusal>
+        ensures { MatchResult result (λ d. d.bytes.now ≡ bytes.now) (λ r. (described bytes.now ≡ None) × (r ≡ Refusal.BadDescription)) }
+    {
+        let experiment = Experiment::read(bytes)?;
+        Ok(Description { bytes, experiment })
+    }
 
-// How many places the charts have, and how many pulses and calls follow.
-#[derive(Clone, Copy)]
-pub struct Sizes {
-    pub pins: u16,
-    pub modes: u16,
-    pub pulses: u16,
-    pub calls: u16,
-}
+    // The image, or all of it but the last byte.
+    pub(crate) fn image(&self, short: bool) -> &'a [u8]
+        ensures { result.now ≡ image_of short self.now.bytes.now }
+    {
+        let bytes = if short { IMAGE - 1 } else { IMAGE };
+        &self.bytes[..bytes]
+    }
 
-// What a description says before its pulses and calls.
-#[derive(Clone, Copy)]
-pub struct Experiment {
-    pub wiring: Wiring,
-    pub steady: u16,
-    pub pulses: u16,
-    pub first: Wave,
-    pub second: Wave,
-    pub sizes: Sizes,
-}
+    // The starting RAM.
+    pub(crate) fn ram(&self) -> [u8; RAM]
+        ensures { result ≡ ram_of self.now.bytes.now }
+    {
+        bytes_at(self.bytes, IMAGE)
+    }
 
-fn wiring_of(number: u16) -> Option<Wiring>
-    ensures { result ≡ wiring_of number }
-{
-    if number == 0 {
-        return Some(Wiring::Steady);
+    fn pulse(&self, k: usize) -> Pulse
+        requires { k < self.now.experiment.sizes.pulses }
+        ensures { result ≡ pulse_of self.now.bytes.now k }
+    {
+        let at = BODY + PULSE * k;
+        Pulse {
+            offset: quad_at(self.bytes, at),
+            length: quad_at(self.bytes, at + 8),
+        }
     }
-    if number == 1 {
-        return Some(Wiring::Pulses);
-    }
-    if number == 2 {
-        return Some(Wiring::Wave);
-    }
-    if number == 3 {
-        return Some(Wiring::PulsesAndWave);
-    }
-    if number == 4 {
-        return Some(Wiring::All);
-    }
-    None
-}
 
-fn wave_at(bytes: &[u8], at: usize) -> Wave
-    requires { at + 10 ≤ length bytes.now }
-    ensures { result ≡ wave_at bytes.now at }
-{
-    Wave {
-        word: word_at(bytes, at),
-        low: double_at(bytes, at + 2),
-        high: double_at(bytes, at + 6),
+    // Writes the pulses into a slice of just as many.
+    pub(crate) fn read_pulses(&self, pulses: &mut [Pulse])
+        requires { length pulses.old ≡ self.now.experiment.sizes.pulses }
+        ensures { pulses.new ≡ pulses_of self.now.bytes.now self.now.experiment.sizes.pulses }
+    {
+        for (k, pulse) in pulses.iter_mut().enumerate() {
+            *pulse = self.pulse(k);
+        }
     }
-}
 
-fn sizes_of(bytes: &[u8]) -> Sizes
-    requires { 2210 ≤ length bytes.now }
-    ensures { result ≡ sizes_of bytes.now }
-{
-    Sizes {
-        pins: word_at(bytes, NUMBERS + 26),
-        modes: word_at(bytes, NUMBERS + 28),
-        pulses: word_at(bytes, NUMBERS + 30),
-        calls: word_at(bytes, NUMBERS + 32),
+    // Call k.
+    pub(crate) fn asked(&self, k: usize) -> Asked
+        requires { k < self.now.experiment.sizes.calls }
+        ensures { result ≡ asked_of self.now.bytes.now self.now.experiment.sizes k }
+    {
+        let pulses = self.experiment.sizes.pulses as usize;
+        Asked::at(self.bytes, BODY + PULSE * pulses + CALL * k)
     }
-}
-
-// Whether the charts and the pulses are not too many, and there are just the bytes that are needed.
-fn is_fit(sizes: Sizes, bytes: usize) -> bool
-    ensures { result ≡ fits sizes bytes }
-{
-    sizes.pins as usize <= PLACES
-        && sizes.modes as usize <= PLACES
-        && sizes.pulses as usize <= PULSES
-        && bytes == BODY + PULSE * sizes.pulses as usize + CALL * sizes.calls as usize
-}
-
-fn numbers_of(bytes: &[u8], wiring: Wiring) -> Experiment
-    requires { 2210 ≤ length bytes.now }
-    ensures { result ≡ numbers_of bytes.now wiring }
-{
-    Experiment {
-        wiring,
-        steady: word_at(bytes, NUMBERS + 2),
-        pulses: word_at(bytes, NUMBERS + 4),
-        first: wave_at(bytes, NUMBERS + 6),
-        second: wave_at(bytes, NUMBERS + 16),
-        sizes: sizes_of(bytes),
-    }
-}
-
-// What a description says, if it is a good one.
-pub(crate) fn experiment_of(bytes: &[u8]) -> Option<Experiment>
-    ensures { result ≡ described bytes.now }
-{
-    if bytes.len() < BODY {
-        return None;
-    }
-    if !is_fit(sizes_of(bytes), bytes.len()) {
-        return None;
-    }
-    let wiring = wiring_of(word_at(bytes, NUMBERS))?;
-    Some(numbers_of(bytes, wiring))
 }

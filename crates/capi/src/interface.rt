@@ -1,18 +1,47 @@
-ghost use Rattle.std.specs.Prelude.{◌≡◌, None, ◌≢◌};
+ghost use Rattle.std.specs.Prelude.{◌≡◌, ◌≢◌, ◌↔◌, length, None, IsTrue, OnErr, IfOk, Some};
+ghost use Rattle.capi.specs.declared.experiment.Experiment.{Experiment};
 ghost use Rattle.capi.specs.Describing.{described};
+ghost use Rattle.capi.specs.Playing.{played_of, Room, Wrote};
+ghost use Rattle.capi.specs.Wirings.{meaning_of};
 
-use crate::description::experiment_of;
-use crate::play::{Answer, LINE};
+use crate::answer::Answer;
+use crate::description::Description;
+use crate::experiment::Sizes;
+use crate::lines::LINE;
 use crate::record::RECORD;
+use crate::refusal::Refusal;
 use crate::wiring::play_wired;
 
-// The errors beside the numbers of refused hosts, 13 and 14: a bad description, and a buffer that is too small.
-const BAD_DESCRIPTION: u32 = 100;
+// Whether buffers of these lengths take all that an experiment writes.
+fn has_room(sizes: Sizes, answers: usize, fields: usize, lines: usize) -> bool
+    ensures { IsTrue result ↔ Room sizes answers fields lines }
+{
+    let places = sizes.pins as usize + sizes.modes as usize;
+    answers >= sizes.calls as usize && fields >= RECORD && lines >= LINE * places
+}
 
-const SMALL_BUFFER: u32 = 101;
+// Plays a description, and answers how many bytes of lines it wrote.
+fn play(
+    description: &[u8],
+    answers: &mut [Answer],
+    fields: &mut [u8],
+    lines: &mut [u8],
+) -> Result<usize, Refusal>
+    ensures bad { described description.now ≡ None → result ≡ Err Refusal.BadDescription }
+    ensures played { IfOk result (λ n. (e : Experiment) → described description.now ≡ Some e → Wrote e.sizes (played_of description.now e.sizes (meaning_of description.now e)) answers.old answers.new fields.old fields.new lines.old lines.new n) }
+    ensures refused { OnErr result ((answers.new ≡ answers.old) × (fields.new ≡ fields.old) × (lines.new ≡ lines.old)) }
+{
+    let description = Description::read(description)?;
+    let sizes = description.experiment.sizes;
+    if !has_room(sizes, answers.len(), fields.len(), lines.len()) {
+        return Err(Refusal::SmallBuffer);
+    }
+    Ok(play_wired(&description, answers, fields, lines)?)
+}
 
 // Plays a described experiment. Answers 0, and then `answers` has one answer for each call, `fields` the record's 192 bytes,
-// and `lines` the P and M lines, `written` bytes; or an error's number, and then nothing is written.
+// and `lines` the P and M lines, `written` bytes; or a refusal's number, and then nothing is written.
+// The number is what C's header declares, so it stands in place of a `Result`.
 #[unsafe(no_mangle)]
 pub extern "C" fn gms87_play(
     description: &[u8],
@@ -22,23 +51,14 @@ pub extern "C" fn gms87_play(
     written: &mut usize,
 ) -> u32
     ensures bad { described description.now ≡ None → result ≡ 100 }
+    ensures played { (e : Experiment) → described description.now ≡ Some e → result ≡ 0 → Wrote e.sizes (played_of description.now e.sizes (meaning_of description.now e)) answers.old answers.new fields.old fields.new lines.old lines.new written.new }
     ensures refused { (result ≢ 0) → (answers.new ≡ answers.old) × (fields.new ≡ fields.old) × (lines.new ≡ lines.old) × (written.new ≡ written.old) }
 {
-    let Some(experiment) = experiment_of(description) else {
-        return BAD_DESCRIPTION;
-    };
-    let places = experiment.sizes.pins as usize + experiment.sizes.modes as usize;
-    if answers.len() < experiment.sizes.calls as usize {
-        return SMALL_BUFFER;
-    }
-    if fields.len() < RECORD || lines.len() < LINE * places {
-        return SMALL_BUFFER;
-    }
-    match play_wired(description, experiment, answers, fields, lines) {
+    match play(description, answers, fields, lines) {
         Ok(bytes) => {
             *written = bytes;
             0
         }
-        Err(fault) => fault.number() as u32,
+        Err(refusal) => refusal.number(),
     }
 }

@@ -1,9 +1,13 @@
 // A C interface: plays one described experiment on the bench.
 #![tactic(auto)]
 
+pub mod answer;
 mod bytes;
 mod description;
+mod experiment;
 pub mod interface;
-pub mod play;
+mod lines;
+mod play;
 mod record;
+mod refusal;
 mod wiring;

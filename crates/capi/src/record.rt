@@ -1,3 +1,7 @@
+ghost use Rattle.std.specs.Prelude.{◌≡◌, ◌+◌, ◌≤◌, [], ◌++◌, length, drop};
+ghost use Rattle.recorder.specs.Samples.{mode_letter};
+ghost use Rattle.capi.specs.Records.{registers_of, ports_of, timers_of, counters_of, requests_of, parts_of, record_of};
+
 use bench::held::Held;
 use bus::parts::Parts;
 use counters::basic::BasicTimer;
@@ -7,46 +11,31 @@ use cpu::registers::Registers;
 use ports::port::Ports;
 use ports::request::Requests;
 use recorder::mode::Mode;
+use std::marker::Model;
 
 // The bytes of a record.
 pub(crate) const RECORD: usize = 192;
 
-// Bytes that go into a buffer one after the other; what does not fit is dropped.
+// The bytes of a record so far: the first ones of an array, since nothing is allocated.
 #[derive(Drop)]
-struct Writer<'a> {
-    out: &'a mut [u8],
-    at: usize,
+struct Record {
+    bytes: [u8; RECORD],
+    length: usize,
 }
 
-impl Writer<'_> {
-    fn byte(&mut self, byte: u8) {
-        if self.at < self.out.len() {
-            self.out[self.at] = byte;
-            self.at += 1;
-        }
-    }
+impl Model for Record {
+    ghost use Rattle.std.specs.Prelude.{ℕ, ◌≤◌, List, take};
 
-    fn word(&mut self, word: u16) {
-        self.byte((word % 256) as u8);
-        self.byte((word / 256) as u8);
-    }
+    ghost Value = { List ℕ };
 
-    fn quad(&mut self, number: u64) {
-        let mut rest = number;
-        for _ in 0..8 {
-            self.byte((rest % 256) as u8);
-            rest /= 256;
-        }
-    }
+    ghost view = { λ r. take r.length r.bytes };
 
-    fn bytes(&mut self, bytes: &[u8]) {
-        for byte in bytes {
-            self.byte(*byte);
-        }
-    }
+    ghost invariant = { λ r. r.length ≤ 192 };
 }
 
-fn letter(mode: Mode) -> u8 {
+fn letter(mode: Mode) -> u8
+    ensures { result ≡ mode_letter mode }
+{
     match mode {
         Mode::Running => b'R',
         Mode::WakeUpTimer => b'W',
@@ -54,54 +43,115 @@ fn letter(mode: Mode) -> u8 {
     }
 }
 
-fn put_registers(writer: &mut Writer, registers: &Registers) {
-    writer.bytes(&[registers.a, registers.x, registers.y, registers.sp]);
-    writer.word(registers.pc);
-    writer.byte(registers.psw());
+impl Record {
+    fn new() -> Record
+        ensures { result ≡ [] }
+    {
+        Record {
+            bytes: [0; RECORD],
+            length: 0,
+        }
+    }
+
+    fn push(&mut self, bytes: &[u8])
+        requires { length self.old + length bytes.now ≤ 192 }
+        ensures { self.new ≡ self.old ++ bytes.now }
+    {
+        let end = self.length + bytes.len();
+        self.bytes[self.length..end].copy_from_slice(bytes);
+        self.length = end;
+    }
+
+    fn bytes(&self) -> &[u8]
+        ensures { result.now ≡ self.now }
+    {
+        &self.bytes[..self.length]
+    }
+}
+
+fn put_registers(record: &mut Record, registers: &Registers)
+    requires { length record.old + 7 ≤ 192 }
+    ensures { record.new ≡ record.old ++ registers_of registers.now }
+{
+    record.push(&[registers.a, registers.x, registers.y, registers.sp]);
+    record.push(&registers.pc.to_le_bytes());
+    record.push(&[registers.psw()]);
 }
 
 // Latches, directions and functions.
-fn put_ports(writer: &mut Writer, ports: &Ports) {
-    writer.bytes(&[ports.ra, ports.rb, ports.rc]);
-    writer.bytes(&[ports.raio, ports.rbio, ports.rcio]);
-    writer.bytes(&[ports.rafunc, ports.rbfunc, ports.pupsel]);
+fn put_ports(record: &mut Record, ports: &Ports)
+    requires { length record.old + 9 ≤ 192 }
+    ensures { record.new ≡ record.old ++ ports_of ports.now }
+{
+    record.push(&[ports.ra, ports.rb, ports.rc]);
+    record.push(&[ports.raio, ports.rbio, ports.rcio]);
+    record.push(&[ports.rafunc, ports.rbfunc, ports.pupsel]);
 }
 
 // TM, TDR and count of both timers, and COMP's level.
-fn put_timers(writer: &mut Writer, timers: &Timers) {
+fn put_timers(record: &mut Record, timers: &Timers)
+    requires { length record.old + 7 ≤ 192 }
+    ensures bytes { record.new ≡ record.old ++ timers_of timers.now }
+    ensures long { length record.new ≡ length record.old + 7 }
+{
     for timer in timers.pair {
-        writer.bytes(&[timer.control, timer.limit, timer.count]);
+        record.push(&[timer.control, timer.limit, timer.count]);
     }
-    writer.byte(timers.comp as u8);
+    record.push(&[u8::from(timers.comp)]);
 }
 
-fn put_counters(writer: &mut Writer, buzzer: &Buzzer, basic: &BasicTimer) {
-    writer.bytes(&[buzzer.bur, buzzer.count, buzzer.level as u8]);
-    writer.bytes(&[basic.control, basic.bitr, basic.wdtr, basic.watchdog]);
+fn put_counters(record: &mut Record, buzzer: &Buzzer, basic: &BasicTimer)
+    requires { length record.old + 7 ≤ 192 }
+    ensures { record.new ≡ record.old ++ counters_of buzzer.now basic.now }
+{
+    record.push(&[buzzer.bur, buzzer.count, u8::from(buzzer.level)]);
+    record.push(&[basic.control, basic.bitr, basic.wdtr, basic.watchdog]);
 }
 
-fn put_requests(writer: &mut Writer, requests: &Requests) {
-    writer.bytes(&[requests.ienh, requests.ienl, requests.irqh]);
-    writer.bytes(&[requests.irql, requests.ieds]);
+fn put_requests(record: &mut Record, requests: &Requests)
+    requires { length record.old + 5 ≤ 192 }
+    ensures { record.new ≡ record.old ++ requests_of requests.now }
+{
+    record.push(&[requests.ienh, requests.ienl, requests.irqh]);
+    record.push(&[requests.irql, requests.ieds]);
 }
 
-fn put_parts(writer: &mut Writer, parts: &Parts) {
-    put_registers(writer, &parts.registers);
-    writer.bytes(&parts.memory.ram);
-    put_ports(writer, &parts.ports);
-    put_timers(writer, &parts.timers);
-    put_counters(writer, &parts.buzzer, &parts.basic);
-    put_requests(writer, &parts.requests);
-    writer.bytes(&[parts.pfdr, letter(parts.mode)]);
+fn put_parts(record: &mut Record, parts: &Parts)
+    requires { length record.old + 165 ≤ 192 }
+    ensures bytes { record.new ≡ record.old ++ parts_of parts.now }
+    ensures long { length record.new ≡ length record.old + 165 }
+{
+    put_registers(record, &parts.registers);
+    record.push(&parts.memory.ram);
+    put_ports(record, &parts.ports);
+    put_timers(record, &parts.timers);
+    put_counters(record, &parts.buzzer, &parts.basic);
+    put_requests(record, &parts.requests);
+    record.push(&[parts.pfdr, letter(parts.mode)]);
 }
 
-// Writes every field of a record, low bytes first.
-pub(crate) fn put_record(out: &mut [u8], held: &Held) {
-    let mut writer = Writer { out, at: 0 };
-    put_parts(&mut writer, &held.moment.machine.parts);
-    writer.byte(held.moment.machine.owed);
-    writer.word(held.moment.machine.prescaler);
-    writer.quad(held.moment.tick);
-    writer.quad(held.stretches.pins as u64);
-    writer.quad(held.stretches.modes as u64);
+impl Record {
+    // Every field of a chip's record, low bytes first.
+    fn of(held: &Held) -> Record
+        ensures bytes { result ≡ record_of held.now }
+        ensures long { length result ≡ 192 }
+    {
+        let mut record = Record::new();
+        put_parts(&mut record, &held.moment.machine.parts);
+        record.push(&[held.moment.machine.owed]);
+        record.push(&held.moment.machine.prescaler.to_le_bytes());
+        record.push(&held.moment.tick.to_le_bytes());
+        record.push(&held.stretches.pins.to_le_bytes());
+        record.push(&held.stretches.modes.to_le_bytes());
+        record
+    }
+}
+
+// Writes a chip's record over the start of a buffer.
+pub(crate) fn put_record(held: &Held, fields: &mut [u8])
+    requires { 192 ≤ length fields.old }
+    ensures { fields.new ≡ record_of held.now ++ drop 192 fields.old }
+{
+    let record = Record::of(held);
+    fields[..RECORD].copy_from_slice(record.bytes());
 }

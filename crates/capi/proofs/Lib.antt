@@ -1,0 +1,4 @@
+pub mod Good
+pub mod Joining
+pub mod Calling
+pub mod Meanings
