@@ -1,6 +1,7 @@
 ghost use Rattle.std.specs.Prelude.{◌≡◌, ◌*◌, ◌≤◌, length};
 ghost use Rattle.std.specs.List.{flat_map};
-ghost use Rattle.recorder.specs.Lines.{line_of, texted};
+ghost use Rattle.recorder.specs.Lines.{line_of};
+ghost use Rattle.capi.specs.Written.{texted};
 
 use recorder::lines::line;
 use recorder::stretch::{Sample, Stretch};

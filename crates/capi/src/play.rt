@@ -1,5 +1,5 @@
 ghost use Rattle.std.specs.Prelude.{◌≡◌, ◌+◌, ◌*◌, ◌≤◌, ◌++◌, length, drop};
-ghost use Rattle.recorder.specs.Lines.{texted};
+ghost use Rattle.capi.specs.Written.{texted};
 ghost use Rattle.bench.specs.Charting.{both};
 ghost use Rattle.bench.specs.Runs.{answer, played};
 ghost use Rattle.capi.specs.Describing.{image_of};
@@ -12,7 +12,7 @@ use crate::experiment::{Asked, PLACES};
 use crate::lines::put_lines;
 use crate::record::put_record;
 use bench::chip::Chip;
-use bench::held::{Stretches, Way};
+use bench::held::Stretches;
 use bench::run::Run;
 use hosts::host::PinHost;
 use recorder::mode::Mode;
@@ -54,10 +54,7 @@ fn make_call<P: PinHost>(
     ensures { answer result.ticks result.fault chip.new.held (both pins.new modes.new) ≡ played (image_of asked.short description.now.bytes.now) (P.meaning host.now) asked.call.grant chip.old.held (both pins.old modes.old) }
 {
     let image = description.image(asked.short);
-    match asked.call.way {
-        Way::Ticks => chip.tick_run(image, host, asked.call.grant, pins, modes),
-        Way::Leaps => chip.leap_run(image, host, asked.call.grant, pins, modes),
-    }
+    chip.run(image, host, asked.call, pins, modes)
 }
 
 // Makes the calls of a description, one answer for each.

@@ -1,5 +1,4 @@
 ghost use Rattle.std.specs.Prelude.{◌≡◌, ◌+◌, ◌≤◌, [], ◌++◌, length, drop};
-ghost use Rattle.recorder.specs.Samples.{mode_letter};
 ghost use Rattle.capi.specs.Records.{registers_of, ports_of, timers_of, counters_of, requests_of, parts_of, record_of};
 
 use bench::held::Held;
@@ -10,7 +9,6 @@ use counters::timer::Timers;
 use cpu::registers::Registers;
 use ports::port::Ports;
 use ports::request::Requests;
-use recorder::mode::Mode;
 use std::marker::Model;
 
 // The bytes of a record.
@@ -31,16 +29,6 @@ impl Model for Record {
     ghost view = { λ r. take r.length r.bytes };
 
     ghost invariant = { λ r. r.length ≤ 192 };
-}
-
-fn letter(mode: Mode) -> u8
-    ensures { result ≡ mode_letter mode }
-{
-    match mode {
-        Mode::Running => b'R',
-        Mode::WakeUpTimer => b'W',
-        Mode::Stopped => b'S',
-    }
 }
 
 impl Record {
@@ -69,65 +57,65 @@ impl Record {
     }
 }
 
-fn put_registers(record: &mut Record, registers: &Registers)
-    requires { length record.old + 7 ≤ 192 }
-    ensures { record.new ≡ record.old ++ registers_of registers.now }
+fn put_registers(out: &mut Record, registers: &Registers)
+    requires { length out.old + 7 ≤ 192 }
+    ensures { out.new ≡ out.old ++ registers_of registers.now }
 {
-    record.push(&[registers.a, registers.x, registers.y, registers.sp]);
-    record.push(&registers.pc.to_le_bytes());
-    record.push(&[registers.psw()]);
+    out.push(&[registers.a, registers.x, registers.y, registers.sp]);
+    out.push(&registers.pc.to_le_bytes());
+    out.push(&[registers.psw()]);
 }
 
 // Latches, directions and functions.
-fn put_ports(record: &mut Record, ports: &Ports)
-    requires { length record.old + 9 ≤ 192 }
-    ensures { record.new ≡ record.old ++ ports_of ports.now }
+fn put_ports(out: &mut Record, ports: &Ports)
+    requires { length out.old + 9 ≤ 192 }
+    ensures { out.new ≡ out.old ++ ports_of ports.now }
 {
-    record.push(&[ports.ra, ports.rb, ports.rc]);
-    record.push(&[ports.raio, ports.rbio, ports.rcio]);
-    record.push(&[ports.rafunc, ports.rbfunc, ports.pupsel]);
+    out.push(&[ports.ra, ports.rb, ports.rc]);
+    out.push(&[ports.raio, ports.rbio, ports.rcio]);
+    out.push(&[ports.rafunc, ports.rbfunc, ports.pupsel]);
 }
 
 // TM, TDR and count of both timers, and COMP's level.
-fn put_timers(record: &mut Record, timers: &Timers)
-    requires { length record.old + 7 ≤ 192 }
-    ensures bytes { record.new ≡ record.old ++ timers_of timers.now }
-    ensures long { length record.new ≡ length record.old + 7 }
+fn put_timers(out: &mut Record, timers: &Timers)
+    requires { length out.old + 7 ≤ 192 }
+    ensures bytes { out.new ≡ out.old ++ timers_of timers.now }
+    ensures long { length out.new ≡ length out.old + 7 }
 {
     for timer in timers.pair {
-        record.push(&[timer.control, timer.limit, timer.count]);
+        out.push(&[timer.control, timer.limit, timer.count]);
     }
-    record.push(&[u8::from(timers.comp)]);
+    out.push(&[u8::from(timers.comp)]);
 }
 
-fn put_counters(record: &mut Record, buzzer: &Buzzer, basic: &BasicTimer)
-    requires { length record.old + 7 ≤ 192 }
-    ensures { record.new ≡ record.old ++ counters_of buzzer.now basic.now }
+fn put_counters(out: &mut Record, buzzer: &Buzzer, basic: &BasicTimer)
+    requires { length out.old + 7 ≤ 192 }
+    ensures { out.new ≡ out.old ++ counters_of buzzer.now basic.now }
 {
-    record.push(&[buzzer.bur, buzzer.count, u8::from(buzzer.level)]);
-    record.push(&[basic.control, basic.bitr, basic.wdtr, basic.watchdog]);
+    out.push(&[buzzer.bur, buzzer.count, u8::from(buzzer.level)]);
+    out.push(&[basic.control, basic.bitr, basic.wdtr, basic.watchdog]);
 }
 
-fn put_requests(record: &mut Record, requests: &Requests)
-    requires { length record.old + 5 ≤ 192 }
-    ensures { record.new ≡ record.old ++ requests_of requests.now }
+fn put_requests(out: &mut Record, requests: &Requests)
+    requires { length out.old + 5 ≤ 192 }
+    ensures { out.new ≡ out.old ++ requests_of requests.now }
 {
-    record.push(&[requests.ienh, requests.ienl, requests.irqh]);
-    record.push(&[requests.irql, requests.ieds]);
+    out.push(&[requests.ienh, requests.ienl, requests.irqh]);
+    out.push(&[requests.irql, requests.ieds]);
 }
 
-fn put_parts(record: &mut Record, parts: &Parts)
-    requires { length record.old + 165 ≤ 192 }
-    ensures bytes { record.new ≡ record.old ++ parts_of parts.now }
-    ensures long { length record.new ≡ length record.old + 165 }
+fn put_parts(out: &mut Record, parts: &Parts)
+    requires { length out.old + 165 ≤ 192 }
+    ensures bytes { out.new ≡ out.old ++ parts_of parts.now }
+    ensures long { length out.new ≡ length out.old + 165 }
 {
-    put_registers(record, &parts.registers);
-    record.push(&parts.memory.ram);
-    put_ports(record, &parts.ports);
-    put_timers(record, &parts.timers);
-    put_counters(record, &parts.buzzer, &parts.basic);
-    put_requests(record, &parts.requests);
-    record.push(&[parts.pfdr, letter(parts.mode)]);
+    put_registers(out, &parts.registers);
+    out.push(&parts.memory.ram);
+    put_ports(out, &parts.ports);
+    put_timers(out, &parts.timers);
+    put_counters(out, &parts.buzzer, &parts.basic);
+    put_requests(out, &parts.requests);
+    out.push(&[parts.pfdr, parts.mode.letter()]);
 }
 
 impl Record {

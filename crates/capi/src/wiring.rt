@@ -20,13 +20,13 @@ const NO_PULSE: Pulse = Pulse {
 };
 
 fn wave_of(wave: Wave) -> Result<SquareWave, Fault>
-    ensures { MatchResult result (λ s. (s.word ≡ wave.word % 2 ^ 15) × (s.low ≡ wave.low) × (s.high ≡ wave.high)) (λ e. (wave_fits wave.low wave.high ≡ false) × (e ≡ Fault.WaveOutOfRange)) }
+    ensures { MatchResult result (λ s. (s.word.bits ≡ wave.word % 2 ^ 15) × (s.low ≡ wave.low) × (s.high ≡ wave.high)) (λ e. (wave_fits wave.low wave.high ≡ false) × (e ≡ Fault.WaveOutOfRange)) }
 {
     SquareWave::new(wave.word, wave.low as u64, wave.high as u64)
 }
 
 fn list_of(word: u16, pulses: &[Pulse]) -> Result<PulseList<'_>, Fault>
-    ensures { IfOk result (λ s. (s.word ≡ word % 2 ^ 15) × (s.pulses.now ≡ pulses.now)) }
+    ensures { IfOk result (λ s. (s.word.bits ≡ word % 2 ^ 15) × (s.pulses.now ≡ pulses.now)) }
 {
     let mut list = PulseList::new();
     list.set(word, pulses)?;
