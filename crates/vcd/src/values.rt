@@ -5,7 +5,6 @@ ghost use Rattle.vcd.specs.Values.{bit_line, bit_lines, pin_lines, mode_line};
 use crate::signal::{Id, PINS, Signal};
 use recorder::mode::Mode;
 use recorder::pin_sample::PinSample;
-use recorder::stretch::{Sample, TEXT};
 use std::fmt;
 
 // The lowest bit of a word, if the lowest bit of `which` is set.
@@ -86,9 +85,7 @@ impl fmt::Display for ModeValue {
     ghost output = { λ m. Some (mode_line m.0) };
 
     fn fmt<W: fmt::Write>(&self, f: &mut fmt::Formatter<W>) -> fmt::Result {
-        let mut text = [0; TEXT];
-        let _ = self.0.write_text(&mut text);
-        let letter = text[0];
+        let letter = self.0.letter();
         writeln!(f, "b{letter:08b} m")
     }
 }

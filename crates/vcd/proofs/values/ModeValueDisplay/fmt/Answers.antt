@@ -1,4 +1,4 @@
-use Rattle.std.proofs.Common.{rules, ◌≡◌, ℕ, ◌^◌, ◌-◌, false, List, [], ◌++◌, codes, get_or, refl, ap, ◌∙◌}
+use Rattle.std.proofs.Common.{rules, ◌≡◌, ℕ, ◌^◌, ◌-◌, false, List, [], ◌++◌, codes, refl, ap, ◌∙◌}
 use Rattle.std.specs.Fmt.{char_count, digits, format_spec, padded_integral}
 use Rattle.std.proofs.Output.{has_written_of_eq}
 use Rattle.recorder.specs.declared.mode.Mode.{Mode}
@@ -18,6 +18,4 @@ line_of WakeUpTimer = refl
 line_of Stopped = refl
 
 pub returns-clause-writes : goal.returns-clause-writes
-returns-clause-writes g c = λ plain ok.
-    let letter : get_or c.write_text.new.out 0 0 ≡ mode_letter c.args.self.now.0 = search rules in
-    has_written_of_eq _ _ (line (get_or c.write_text.new.out 0 0)) _ _ (ap line letter ∙ line_of c.args.self.now.0) (search rules)
+returns-clause-writes g c = λ plain ok. has_written_of_eq _ _ (line c.letter-letter.result) _ _ (ap line c.letter-letter.ensures ∙ line_of c.args.self.now.0) (search rules)
