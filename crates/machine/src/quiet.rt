@@ -32,6 +32,7 @@ impl Machine {
         let timers = self.parts.timers.still(mode, self.prescaler);
         let buzzer = self.parts.buzzer.still(mode, self.prescaler);
         let basic = self.parts.basic.still(mode, self.prescaler);
+        // Three calls: a fold over the four bounds says no more, and first puts them into an array.
         sooner(self.rest(), sooner(timers, sooner(buzzer, basic)))
     }
 
