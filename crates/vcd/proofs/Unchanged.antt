@@ -4,7 +4,7 @@ use Rattle.std.specs.Prelude.{bit_xor}
 use Rattle.std.proofs.lemmas.Nat.{xor_mod, xor_shr}
 use Rattle.recorder.specs.declared.pin_sample.PinSample.{PinSample}
 use Rattle.vcd.specs.Signals.{first_level, first_drive}
-use Rattle.vcd.specs.Values.{bit_line, bit_lines, pin_lines, changed}
+use Rattle.vcd.specs.Values.{bit_lines, pin_lines, changed}
 
 even : (x : ℕ) → bit_xor x x % 2 ≡ 0
 even x = xor_mod x x 1 ∙ by (x % 2) (omega arith)
