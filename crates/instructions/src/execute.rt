@@ -91,7 +91,11 @@ fn ticks_of(entry: Entry, taken: bool) -> u8
     ensures value { result ≡ ticks_of entry taken }
     ensures few { result ≤ 16 }
 {
-    if taken { 2 * entry.cycles + 4 } else { 2 * entry.cycles }
+    if taken {
+        2 * entry.cycles + 4
+    } else {
+        2 * entry.cycles
+    }
 }
 
 // The next instruction, whole; the answer is the ticks that it takes.

@@ -84,13 +84,7 @@ impl Board {
     }
 
     // One run call, with no more than the first `places` of the charts.
-    pub fn call<P: PinHost>(
-        &mut self,
-        call: Call,
-        image: &[u8],
-        host: &P,
-        places: Places,
-    ) -> Run {
+    pub fn call<P: PinHost>(&mut self, call: Call, image: &[u8], host: &P, places: Places) -> Run {
         let pins = places.pins.min(self.pins.len());
         let modes = places.modes.min(self.modes.len());
         let pins = &mut self.pins.as_mut_slice()[..pins];
