@@ -22,7 +22,7 @@ pub record Accepted (b : Bench) (grant : ℕ) : Type 0 where
   pub time : b.held.moment.tick + grant ≤ 2 ^ 48
   pub ready : IsReady b
 
--- the charts that were lent are still there, whatever stands in them
+-- the charts that were lent are still there, whatever stands in them; it speaks of two states, so no ghost field says it
 pub record Lent (old new : Bench) : Type 0 where
   pub pins : new.pins.ghost_name ≡ old.pins.ghost_name
   pub modes : new.modes.ghost_name ≡ old.modes.ghost_name

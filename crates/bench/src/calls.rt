@@ -6,7 +6,7 @@ ghost use Rattle.bench.specs.Board.{BoardAfter, StandsAfter, Begun};
 
 use crate::bench::Bench;
 use crate::chip::Chip;
-use crate::held::{Call, Held, Moment, Stretches, Way};
+use crate::held::{Call, Held, Moment, Stretches};
 use crate::run::{IMAGE, Run};
 use bus::parts::{Memory, Parts};
 use counters::basic::BasicTimer;
@@ -86,7 +86,8 @@ impl Chip {
         Ok(())
     }
 
-    // A run call, up to its grant: each tick by itself, or all quiet ticks up to the next that is not in one move.
+    // A run call, up to its grant: each tick by itself, or all quiet ticks up to the next that is not in one move. The charts
+    // are the caller's, so the public calls take two slices.
     pub fn run<P: PinHost>(
         &mut self,
         image: &[u8],

@@ -63,10 +63,7 @@ impl Moment {
             return 0;
         }
         let cut = most.min(seen.until.saturating_sub(self.tick));
-        match self.machine.still() {
-            Some(ticks) => ticks.min(cut),
-            None => cut,
-        }
+        self.machine.still().map_or(cut, |ticks| ticks.min(cut))
     }
 
     // Takes quiet ticks at once, or, where there are none, ends the tick that has begun. An enum of the two kinds of move would be

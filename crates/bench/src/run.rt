@@ -78,7 +78,7 @@ impl Held {
 }
 
 impl Bench<'_> {
-    // Runs an accepted call.
+    // Runs an accepted call: the one place where ticks and leaps part.
     pub(crate) fn run<P: PinHost>(&mut self, image: &[u8], host: &P, call: Call) -> Run
         requires { Accepted self.old call.grant }
         ensures { Plays image.now (P.meaning host.now) call.grant self.old result self.new }

@@ -110,13 +110,13 @@ register_written m rg.Ckctlr v = (record m { basic = basic_set v m.basic }, Some
 register_written m rg.Wdtr v = (record m { basic = watchdog_set v m.basic }, Some tt)
 register_written m rg.Pfdr v = (record m { pfdr = v % 8 }, Some tt)
 
+-- a register that takes a byte, unless that sets a mode that is not there
 abbrev pub register_taken : Parts → ℕ → ℕ → ℕ → Register → Result Parts Fault
 register_taken m pc address v r =
     let s = register_written m r v in
     cond (bit_and v (missing_modes r) == 0) (after (ok_or s.1 (WriteToReadOnly pc address)) s.0) (Err (UnsupportedMode pc address))
 
 -- RAM and registers take a byte, the image does not
-
 abbrev pub written_at : Parts → ℕ → ℕ → ℕ → Result Parts Fault
 written_at m pc address v =
     cond (nat_lt address 0x80) (Ok (ram_with m address v))

@@ -82,6 +82,7 @@ impl Parts {
             }
         }
     }
+
     // Stores a byte at a place, which is not read.
     pub fn store(&mut self, view: &View, place: Place, byte: u8) -> Result<(), Fault>
         ensures { after result self.new ≡ stored self.old (seen view.now) place byte }

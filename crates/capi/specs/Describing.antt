@@ -69,6 +69,3 @@ asked_at b i = record { call = record { way = way_of (is_set (slice_index b i));
 -- call k of those behind the pulses
 abbrev pub asked_of : List ℕ → Sizes → ℕ → Asked
 asked_of b s k = asked_at b (2210 + 16 * s.pulses + 10 * k)
-
-abbrev pub calls_of : List ℕ → Sizes → List Asked
-calls_of b s = map (asked_of b s) (range_with_len 0 s.calls)

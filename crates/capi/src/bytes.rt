@@ -11,7 +11,7 @@ pub(crate) fn bytes_at<const N: usize>(bytes: &[u8], at: usize) -> [u8; N]
     copy
 }
 
-// Numbers of two, four and eight bytes, low bytes first.
+// Numbers of two, four and eight bytes, low bytes first: each names its width in its contract.
 pub(crate) fn word_at(bytes: &[u8], at: usize) -> u16
     requires { at + 2 ≤ length bytes.now }
     ensures { result ≡ word_at bytes.now at }

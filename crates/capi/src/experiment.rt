@@ -90,7 +90,7 @@ impl Asked {
     }
 }
 
-// The numbers of a square wave.
+// The numbers of a square wave, in four bytes each where a text has any below 2^64.
 #[derive(Clone, Copy, PartialEq, Eq, Debug)]
 pub struct Wave {
     pub word: u16,

@@ -7,10 +7,10 @@ ghost use Rattle.capi.specs.Wirings.{meaning_of};
 use crate::answer::Answer;
 use crate::description::Description;
 use crate::experiment::Sizes;
-use crate::lines::LINE;
 use crate::record::RECORD;
 use crate::refusal::Refusal;
 use crate::wiring::play_wired;
+use recorder::lines::LINE;
 
 // Whether buffers of these lengths take all that an experiment writes.
 fn has_room(sizes: Sizes, answers: usize, fields: usize, lines: usize) -> bool

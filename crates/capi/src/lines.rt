@@ -3,11 +3,8 @@ ghost use Rattle.std.specs.List.{flat_map};
 ghost use Rattle.recorder.specs.Lines.{line_of};
 ghost use Rattle.capi.specs.Written.{texted};
 
-use recorder::lines::line;
+use recorder::lines::{LINE, line};
 use recorder::stretch::{Sample, Stretch};
-
-// The bytes that a line needs.
-pub(crate) const LINE: usize = 64;
 
 // Writes the line of a stretch over the start of a buffer, and answers its length.
 fn put_line<S: Sample>(stretch: &Stretch<S>, lines: &mut [u8]) -> usize

@@ -105,6 +105,7 @@ pub(crate) fn play_before<P: PinHost>(
 {
     let sizes = description.experiment.sizes;
     let calls = sizes.calls as usize;
+    // Whole arrays, of which each chart takes its places: nothing is allocated.
     let mut pins = [no_pins(); PLACES];
     let mut modes = [no_mode(); PLACES];
     let pins = &mut pins[..sizes.pins as usize];

@@ -14,7 +14,7 @@ use std::marker::Model;
 // The bytes of a record.
 pub(crate) const RECORD: usize = 192;
 
-// The bytes of a record so far: the first ones of an array, since nothing is allocated.
+// The bytes of a record so far, which clauses see as a list: the first ones of an array, since nothing is allocated.
 #[derive(Drop)]
 struct Record {
     bytes: [u8; RECORD],
@@ -57,6 +57,7 @@ impl Record {
     }
 }
 
+// Each of these says how many of the 192 bytes it needs: that is of the bytes before it, of which no invariant speaks.
 fn put_registers(out: &mut Record, registers: &Registers)
     requires { length out.old + 7 ≤ 192 }
     ensures { out.new ≡ out.old ++ registers_of registers.now }

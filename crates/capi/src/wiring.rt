@@ -45,6 +45,7 @@ pub(crate) fn play_wired(
     ensures refused { OnErr result ((answers.new ≡ answers.old) × (fields.new ≡ fields.old) × (lines.new ≡ lines.old)) }
 {
     let told = description.experiment;
+    // A whole array, of which the list takes its places: nothing is allocated.
     let mut places = [NO_PULSE; PULSES];
     let pulses = &mut places[..told.sizes.pulses as usize];
     description.read_pulses(pulses);

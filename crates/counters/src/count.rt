@@ -1,6 +1,8 @@
 ghost use Rattle.std.specs.Prelude.{◌≡◌, ◌<◌, ◌≤◌};
 ghost use Rattle.counters.specs.Counting.{counted, gap};
 
+// The bounds of M stand with each function over it, since a const parameter carries no fact.
+
 // A count modulo M after a pulse, which takes one at its limit to 0.
 pub(crate) fn counted<const M: u16>(limit: u8, count: u8) -> u8
     requires some { 0 < M }

@@ -2,6 +2,8 @@
 // All run on one prescaler, which adds 1 modulo 2,048 at each tick.
 #![tactic(auto)]
 
+// Each counter takes the mode and the prescaler side by side: a struct of the two would be made for a call and taken apart in it.
+
 pub mod basic;
 pub mod buzzer;
 mod count;

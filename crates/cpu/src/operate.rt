@@ -100,7 +100,7 @@ impl Registers {
         }
     }
 
-    // What a byte becomes. N and Z tell of it.
+    // Notes the byte that an operation made, and answers it.
     fn change(&mut self, byte: u8) -> u8
         ensures { (self.new, result) ≡ changed self.old byte }
     {

@@ -8,8 +8,8 @@ use bus::view::View;
 use faults::Fault;
 use sheet::operation::{AluOp, Bit, Index, Operand, Place, Saved, ShiftOp, Target};
 
-// This, LDX and CMPX differ in what the registers do with the byte: a closure's contract would be longer than these bodies.
-// ADC, SBC, CMP, OR, AND, EOR and LDA.
+// ADC, SBC, CMP, OR, AND, EOR and LDA. This, LDX and CMPX differ in what the registers do with the byte: a closure's contract
+// would be longer than these bodies.
 pub(crate) fn calculate(
     parts: &mut Parts,
     view: &View,

@@ -1,7 +1,8 @@
 use bus::parts::Parts;
 use ports::request::Interrupt;
 
-// The chip without its tick number: its parts, the ticks that are owed for what took effect, and the prescaler.
+// The chip without its tick number: its parts, the ticks that are owed for what took effect, and the prescaler. That it is
+// sound (`Sound`) is no ghost field, which would ask more of whoever builds one.
 #[derive(Clone, Copy, PartialEq, Eq, Debug)]
 pub struct Machine {
     pub parts: Parts,

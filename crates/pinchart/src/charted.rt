@@ -3,7 +3,8 @@ ghost use Rattle.pinchart.specs.Walks.{reached};
 
 use faults::Fault;
 
-// How far a chart of recorded pins came: the ticks and stretches it has, and why it stopped.
+// How far a chart of recorded pins came: the ticks and stretches it has, and why it stopped. No `Result`, since a chart that
+// stopped has both.
 #[derive(Clone, Copy, PartialEq, Eq, Default, Debug)]
 pub struct Charted {
     pub ticks: u64,

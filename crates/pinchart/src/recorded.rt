@@ -18,7 +18,7 @@ use recording::{Recording, Wave};
 use report::{add_lines, add_outcome};
 use std::alloc::{AllocError, Global};
 
-// Charts a host, joined with a wave if there is one.
+// Charts a host, joined with a wave if there is one, unless the wave is refused.
 fn chart_with<P: PinHost>(
     host: &P,
     wave: Option<Wave>,

@@ -90,6 +90,7 @@ impl Ports {
         };
     }
 
+    // One call of `word` for the latches and one for the directions, which differ in the fields alone.
     fn latches(&self) -> u16
         ensures { result ≡ latches self.now }
     {

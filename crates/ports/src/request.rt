@@ -39,7 +39,7 @@ pub struct Requests {
 // The enabled requests that wake the chip.
 const WAKING: u8 = 0xe0;
 
-// First to last.
+// The order in which pending interrupts are taken.
 const ORDER: [Interrupt; 7] = [
     Interrupt::Int0,
     Interrupt::Int1,

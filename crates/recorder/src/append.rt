@@ -59,6 +59,7 @@ pub fn append<S: Sample>(
     }
     let counted = chart.get(..count)?;
     let offset = next_tick(counted, ticks)?;
+    // Written by index: what `get_mut` lends, the proof does not find again in the chart.
     if goes_on(counted, &sample) {
         chart[count - 1].length += ticks;
         return Some(count);

@@ -14,6 +14,7 @@ pub enum Mode {
 }
 
 impl Mode {
+    // The letter that shows the mode in a line: R, W or S. The line's own letter is `Sample::letter`, M.
     pub fn letter(self) -> u8
         ensures { result ≡ mode_letter self }
     {

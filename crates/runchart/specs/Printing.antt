@@ -48,5 +48,6 @@ abbrev pub printed_of : Option Ran → List ℕ
 printed_of None = outcome_of 0 (Some ImageSize)
 printed_of (Some r) = printed_run r
 
+-- what is printed of an input
 abbrev pub printed : List ℕ → Charts → List ℕ
 printed input c = printed_of (input_run input c).0

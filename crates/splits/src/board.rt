@@ -34,7 +34,7 @@ pub struct Board {
     run: Run,
 }
 
-// What is in RAM at power-on, and in the places that no run has filled.
+// What is in RAM at power-on, and in the places that no run has filled: what no run writes, and so no blank stretches.
 const RAM: [u8; 128] = [0xa5; 128];
 
 const NO_PINS: Stretch<PinSample> = Stretch {
@@ -109,7 +109,8 @@ impl Board {
         }
     }
 
-    // Whether another board has the same answers, record and places, also those that are not counted.
+    // Whether another board has the same answers, record and places, also those that are not counted. A chip derives no equality
+    // beside its ghost field, so its record is compared.
     pub fn is_same(&self, other: &Board) -> bool {
         self.run == other.run
             && self.chip.held == other.chip.held
@@ -122,6 +123,7 @@ impl fmt::Display for Plan {
     fn fmt<W: fmt::Write>(&self, f: &mut fmt::Formatter<W>) -> fmt::Result {
         let times = self.times;
         let grant = self.call.grant;
+        // A way is printed by its name.
         let way = match self.call.way {
             Way::Ticks => "ticks",
             Way::Leaps => "leaps",

@@ -16,6 +16,7 @@ const LENGTHS: [u64; 7] = [1, 2, 7, 40, 300, 1500, 4000];
 // The door is opened about every 7,400 ticks.
 pub fn door_pulses(heap: Global) -> Result<Vec<Pulse>, AllocError> {
     let mut pulses = Vec::new(heap);
+    // By the number of the opening: a range tells its bound, which is not known behind a `zip`.
     for k in 0..OPENINGS {
         pulses.push(Pulse {
             offset: 3000 + 7400 * k + 1237 * k % 3000,

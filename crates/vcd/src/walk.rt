@@ -8,8 +8,6 @@ use recorder::pin_sample::PinSample;
 use recorder::stretch::Stretch;
 use std::fmt;
 
-// The walk holds two slices and no `Peekable`: a slice shows its first stretch with no peeked one kept beside it.
-
 // The tick at which the first stretch begins, or `end` if there is none.
 fn next_or<S>(end: u64, stretches: &[Stretch<S>]) -> u64
     ensures { result ≡ next_or end stretches.now }
@@ -70,6 +68,7 @@ impl fmt::Display for Change {
 }
 
 // The changes at each tick at which a stretch begins, up to `end`. Before the first one the pins show `shown`.
+// It holds two slices and no `Peekable`: a slice shows its first stretch with no peeked one kept beside it.
 #[derive(Clone, Copy)]
 pub(crate) struct Walk<'a> {
     pub(crate) end: u64,
