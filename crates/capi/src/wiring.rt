@@ -14,6 +14,7 @@ use hosts::pulses::PulseList;
 use hosts::steady::Steady;
 use hosts::wave::SquareWave;
 
+// What stands where no pulse is read: a pulse has no default, since one without a tick is bad.
 const NO_PULSE: Pulse = Pulse {
     offset: 0,
     length: 0,
