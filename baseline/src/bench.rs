@@ -13,7 +13,7 @@ const LINE: usize = 64;
 const NOWHERE: u32 = 65536;
 
 #[repr(C)]
-#[derive(Clone, Copy, Default)]
+#[derive(Clone, Copy, PartialEq)]
 struct Answer {
     ticks: u64,
     number: u32,
@@ -129,36 +129,56 @@ pub fn description(experiment: &Experiment) -> Vec<u8> {
     out
 }
 
+/// The buffers of a call, of any lengths.
+#[derive(Clone, PartialEq)]
+pub struct Buffers {
+    answers: Vec<Answer>,
+    fields: Vec<u8>,
+    lines: Vec<u8>,
+    written: usize,
+}
+
+impl Buffers {
+    /// Filled with what no call writes.
+    pub fn new(answers: usize, fields: usize, lines: usize) -> Buffers {
+        let answer = Answer { ticks: !0, number: !0, pc: !0, address: !0 };
+        Buffers { answers: vec![answer; answers], fields: vec![0xA5; fields], lines: vec![0xA5; lines], written: !0 }
+    }
+
+    /// Plays a description into them, and returns what the interface answers.
+    pub fn play(&mut self, description: &[u8]) -> u32 {
+        // SAFETY: each pointer is that of a slice with its length; the interface writes inside them only.
+        unsafe {
+            gms87_play(
+                description.as_ptr(),
+                description.len(),
+                self.answers.as_mut_ptr(),
+                self.answers.len(),
+                self.fields.as_mut_ptr(),
+                self.fields.len(),
+                self.lines.as_mut_ptr(),
+                self.lines.len(),
+                &mut self.written,
+            )
+        }
+    }
+}
+
 /// Plays a fitted experiment on the proved bench, with the model's form of result.
 pub fn play(experiment: &Experiment) -> Vec<u8> {
     let description = description(experiment);
-    let mut answers = vec![Answer::default(); experiment.calls.len()];
-    let mut fields = [0; RECORD];
-    let mut lines = vec![0; LINE * (experiment.pin_places + experiment.mode_places) as usize];
-    let mut written = 0;
-    // SAFETY: each pointer is that of a slice with its length; the interface writes inside them only.
-    let error = unsafe {
-        gms87_play(
-            description.as_ptr(),
-            description.len(),
-            answers.as_mut_ptr(),
-            answers.len(),
-            fields.as_mut_ptr(),
-            fields.len(),
-            lines.as_mut_ptr(),
-            lines.len(),
-            &mut written,
-        )
-    };
+    let places = (experiment.pin_places + experiment.mode_places) as usize;
+    let mut buffers = Buffers::new(experiment.calls.len(), RECORD, LINE * places);
+    let error = buffers.play(&description);
     assert_eq!(error, 0, "the interface refuses the description");
     let mut text = String::new();
-    for answer in answers {
+    for answer in &buffers.answers {
         let (pc, address) = (named(answer.pc), named(answer.address));
         text += &format!("T {} {} {pc} {address}\n", answer.ticks, answer.number);
     }
     let mut out = text.into_bytes();
-    out.extend(&lines[..written]);
-    out.extend(record_text(&fields).into_bytes());
+    out.extend(&buffers.lines[..buffers.written]);
+    out.extend(record_text(&buffers.fields).into_bytes());
     out
 }
 
@@ -171,7 +191,7 @@ fn named(place: u32) -> String {
 }
 
 /// The record's numbers: one byte each, but PC and prescaler two, and tick number and counts eight.
-fn record_text(fields: &[u8; RECORD]) -> String {
+fn record_text(fields: &[u8]) -> String {
     let widths = [&[1; 4][..], &[2], &[1; 160], &[2], &[8; 3]].concat();
     let mut numbers = Vec::new();
     let mut at = 0;

@@ -4,8 +4,7 @@ use Rattle.std.proofs.lemmas.List.{take_at, drop_at, drop_all, drop-drop, take_m
 use Rattle.std.proofs.Math.Seq.{take-length}
 use Rattle.std.specs.List.{flat_map}
 use borrow.Rule.Slice.PartMut.{put_mid}
-use Rattle.recorder.specs.Lines.{over}
-use Rattle.capi.specs.Written.{texted}
+use Rattle.recorder.specs.Lines.{over, texted}
 use Rattle.counters.specs.declared.timer.Timers.{Timers}
 use Rattle.counters.specs.Timers.{at}
 use Rattle.capi.specs.Records.{timer_of}

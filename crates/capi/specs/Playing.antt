@@ -6,8 +6,7 @@ use Rattle.recorder.specs.declared.pin_sample.PinSample.{PinSample}
 use Rattle.recorder.specs.declared.mode.Mode.{Mode}
 use Rattle.recorder.specs.declared.mode.Mode.TheVariants.{Running}
 use Rattle.recorder.specs.Samples.{pin_script, mode_script}
-use Rattle.recorder.specs.Lines.{line_of}
-use Rattle.capi.specs.Written.{texted}
+use Rattle.recorder.specs.Lines.{line_of, texted}
 use Rattle.bench.specs.declared.held.Held.{Held}
 use Rattle.bench.specs.declared.held.Stretches.{Stretches}
 use Rattle.bench.specs.Charting.{Charts, both}

@@ -1,5 +1,5 @@
 -- The hosts that a description wires to the pins.
-use Rattle.std.specs.Prelude.{ℕ, ◌%◌, ◌^◌, List, if◌then◌else◌, bit_or}
+use Rattle.std.specs.Prelude.{ℕ, ◌%◌, ◌^◌, Bool, true, false, List, if◌then◌else◌, bit_or}
 use Rattle.hosts.specs.Pulses.{covered}
 use Rattle.hosts.specs.Waves.{wave_at}
 use Rattle.capi.specs.declared.experiment.Wiring.{Wiring}
@@ -34,3 +34,11 @@ wired_as All b e = joined (joined (steady_of e) (pulsed b e)) (joined (first_of 
 -- the pin word at each tick
 unfoldable pub meaning_of : List ℕ → Experiment → ℕ → ℕ
 meaning_of b e = wired_as e.wiring b e
+
+-- a list of pulses is wired, alone or joined
+abbrev pub has_pulses : Wiring → Bool
+has_pulses Steady = false
+has_pulses Pulses = true
+has_pulses Wave = false
+has_pulses PulsesAndWave = true
+has_pulses All = true

@@ -1,7 +1,6 @@
 ghost use Rattle.std.specs.Prelude.{◌≡◌, ◌*◌, ◌≤◌, length};
 ghost use Rattle.std.specs.List.{flat_map};
-ghost use Rattle.recorder.specs.Lines.{line_of};
-ghost use Rattle.capi.specs.Written.{texted};
+ghost use Rattle.recorder.specs.Lines.{line_of, texted};
 
 use recorder::lines::{LINE, line};
 use recorder::stretch::{Sample, Stretch};

@@ -1,5 +1,5 @@
 ghost use Rattle.std.specs.Prelude.{◌≡◌, ◌+◌, ◌*◌, ◌≤◌, ◌++◌, length, drop};
-ghost use Rattle.capi.specs.Written.{texted};
+ghost use Rattle.recorder.specs.Lines.{texted};
 ghost use Rattle.bench.specs.Charting.{both};
 ghost use Rattle.bench.specs.Runs.{answer, played};
 ghost use Rattle.capi.specs.Describing.{image_of};
@@ -93,6 +93,8 @@ fn put_charts(
 
 // Plays a description before a host, and answers how many bytes of lines it wrote. The three buffers stand side by side:
 // of a struct that lends them, a caller would learn what it holds afterwards, and not what its own buffers hold.
+// It is not inlined, so that no wiring has the arrays of another on the stack beside its own.
+#[inline(never)]
 pub(crate) fn play_before<P: PinHost>(
     description: &Description,
     host: &P,

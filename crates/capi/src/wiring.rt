@@ -1,7 +1,8 @@
 ghost use Rattle.std.specs.Prelude.{◌≡◌, ◌+◌, ◌*◌, ◌≤◌, ◌%◌, ◌^◌, length, true, false, IfOk, OnErr, MatchResult};
 ghost use Rattle.hosts.specs.Waves.{wave_fits};
 ghost use Rattle.capi.specs.Playing.{played_of, Room, Wrote};
-ghost use Rattle.capi.specs.Wirings.{meaning_of};
+ghost use Rattle.capi.specs.Describing.{pulses_of};
+ghost use Rattle.capi.specs.Wirings.{meaning_of, has_pulses};
 
 use crate::answer::Answer;
 use crate::description::Description;
@@ -26,12 +27,60 @@ fn wave_of(wave: Wave) -> Result<SquareWave, Fault>
     SquareWave::new(wave.word, wave.low as u64, wave.high as u64)
 }
 
-fn list_of(word: u16, pulses: &[Pulse]) -> Result<PulseList<'_>, Fault>
-    ensures { IfOk result (λ s. (s.word.bits ≡ word % 2 ^ 15) × (s.pulses.now ≡ pulses.now)) }
+// The list of a description's pulses, which are read into places for them.
+fn list_of<'a>(
+    description: &Description,
+    places: &'a mut [Pulse; PULSES],
+) -> Result<PulseList<'a>, Fault>
+    ensures { IfOk result (λ s. (s.word.bits ≡ description.now.experiment.pulses % 2 ^ 15) × (s.pulses.now ≡ pulses_of description.now.bytes.now description.now.experiment.sizes.pulses)) }
 {
+    let told = description.experiment;
+    let pulses = &mut places[..told.sizes.pulses as usize];
+    description.read_pulses(pulses);
     let mut list = PulseList::new();
-    list.set(word, pulses)?;
+    list.set(told.pulses, pulses)?;
     Ok(list)
+}
+
+// Plays a description before its pulses and the hosts that it joins with them. Only here is there an array for pulses, of which
+// the list takes its places: nothing is allocated.
+fn play_pulses(
+    description: &Description,
+    answers: &mut [Answer],
+    fields: &mut [u8],
+    lines: &mut [u8],
+) -> Result<usize, Fault>
+    requires room { Room description.now.experiment.sizes (length answers.old) (length fields.old) (length lines.old) }
+    requires pulses { has_pulses description.now.experiment.wiring ≡ true }
+    ensures played { IfOk result (λ n. Wrote description.now.experiment.sizes (played_of description.now.bytes.now description.now.experiment.sizes (meaning_of description.now.bytes.now description.now.experiment)) answers.old answers.new fields.old fields.new lines.old lines.new n) }
+    ensures refused { OnErr result ((answers.new ≡ answers.old) × (fields.new ≡ fields.old) × (lines.new ≡ lines.old)) }
+{
+    let told = description.experiment;
+    let mut places = [NO_PULSE; PULSES];
+    let list = list_of(description, &mut places)?;
+    match told.wiring {
+        Wiring::Pulses => Ok(play_before(description, &list, answers, fields, lines)),
+        Wiring::PulsesAndWave => {
+            let right = wave_of(told.first)?;
+            let host = Join { left: list, right };
+            Ok(play_before(description, &host, answers, fields, lines))
+        }
+        Wiring::All => {
+            let first = wave_of(told.first)?;
+            let second = wave_of(told.second)?;
+            let left = Join {
+                left: Steady::new(told.steady),
+                right: list,
+            };
+            let right = Join {
+                left: first,
+                right: second,
+            };
+            let host = Join { left, right };
+            Ok(play_before(description, &host, answers, fields, lines))
+        }
+        Wiring::Steady | Wiring::Wave => unreachable!(),
+    }
 }
 
 // Plays a description before the hosts that it wires. A host that is refused is told before anything is written.
@@ -46,41 +95,17 @@ pub(crate) fn play_wired(
     ensures refused { OnErr result ((answers.new ≡ answers.old) × (fields.new ≡ fields.old) × (lines.new ≡ lines.old)) }
 {
     let told = description.experiment;
-    // A whole array, of which the list takes its places: nothing is allocated.
-    let mut places = [NO_PULSE; PULSES];
-    let pulses = &mut places[..told.sizes.pulses as usize];
-    description.read_pulses(pulses);
-    let steady = Steady::new(told.steady);
     match told.wiring {
-        Wiring::Steady => Ok(play_before(description, &steady, answers, fields, lines)),
-        Wiring::Pulses => {
-            let list = list_of(told.pulses, pulses)?;
-            Ok(play_before(description, &list, answers, fields, lines))
+        Wiring::Steady => {
+            let steady = Steady::new(told.steady);
+            Ok(play_before(description, &steady, answers, fields, lines))
         }
         Wiring::Wave => {
             let wave = wave_of(told.first)?;
             Ok(play_before(description, &wave, answers, fields, lines))
         }
-        Wiring::PulsesAndWave => {
-            let left = list_of(told.pulses, pulses)?;
-            let right = wave_of(told.first)?;
-            let host = Join { left, right };
-            Ok(play_before(description, &host, answers, fields, lines))
-        }
-        Wiring::All => {
-            let list = list_of(told.pulses, pulses)?;
-            let first = wave_of(told.first)?;
-            let second = wave_of(told.second)?;
-            let left = Join {
-                left: steady,
-                right: list,
-            };
-            let right = Join {
-                left: first,
-                right: second,
-            };
-            let host = Join { left, right };
-            Ok(play_before(description, &host, answers, fields, lines))
+        Wiring::Pulses | Wiring::PulsesAndWave | Wiring::All => {
+            play_pulses(description, answers, fields, lines)
         }
     }
 }

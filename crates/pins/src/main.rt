@@ -3,17 +3,22 @@
 
 use pinchart::recorded::print_recording;
 use recorder::stretch::Stretch;
-use recording::parse;
+use recording::{Recording, TextError, parse};
 use std::io::{Read, Write};
 use std::process::ExitCode;
 
 // How many stretches a chart has places for.
 const PLACES: usize = 65536;
 
-fn main(rt: HostRuntime) -> anyhow::Result<ExitCode> {
+// What the text on standard input describes. The text is let go here, before there is a chart.
+fn read_recording(rt: &HostRuntime) -> anyhow::Result<Result<Recording, TextError>> {
     let mut text = Vec::new(rt.alloc());
     rt.stdin().read_to_end(&mut text)?;
-    let recording = match parse(rt.alloc(), text.as_slice()) {
+    Ok(parse(rt.alloc(), text.as_slice()))
+}
+
+fn main(rt: HostRuntime) -> anyhow::Result<ExitCode> {
+    let recording = match read_recording(&rt)? {
         Ok(recording) => recording,
         Err(refused) => {
             rt.eprintln(refused)?;

@@ -35,6 +35,10 @@ outcome_of ticks fault = start_of 84 ticks (fault_number fault) ++ (10 ∷ [])
 abbrev pub over : List ℕ → List ℕ → List ℕ
 over bs xs = bs ++ drop (length bs) xs
 
+-- how many bytes were written over the start of others, and what is there then
+abbrev pub texted : List ℕ → List ℕ → ℕ × List ℕ
+texted bs xs = (length bs, over bs xs)
+
 -- a line call: its answer, and the buffer after it
 abbrev pub lined : List ℕ → List ℕ → Result ℕ Fault × List ℕ
 lined line xs = cond (nat_lt (length xs) 64) (Err ShortLineBuffer, xs) (Ok (length line), over line xs)

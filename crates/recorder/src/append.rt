@@ -20,7 +20,9 @@ pub fn fits<S: Sample>(chart: &[Stretch<S>], count: usize, tick: u64) -> bool
 fn goes_on<S: Sample>(counted: &[Stretch<S>], sample: &S) -> bool
     ensures { result ≡ goes_on S.kind counted.now (length counted.now) sample.now }
 {
-    counted.last().is_some_and(|last| last.sample == *sample)
+    counted
+        .last()
+        .is_some_and(|last| last.sample.is_like(sample))
 }
 
 // The tick after the last counted stretch, unless `ticks` more would pass 64 bits.

@@ -1,8 +1,7 @@
-ghost use Rattle.std.specs.Prelude.{◌≡◌, refl};
-ghost use Rattle.recorder.specs.Samples.{mode_letter, mode_kind, alike_modes, mode_script};
+ghost use Rattle.std.specs.Prelude.{◌≡◌};
+ghost use Rattle.recorder.specs.Samples.{mode_letter, mode_kind, mode_script};
 
 use crate::stretch::{Sample, TEXT};
-use arrayvec::ArrayVec;
 
 // What the chip does at a tick: it runs, or sleeps with its wake-up timer counting, or sleeps with everything stopped.
 #[derive(Clone, Copy, PartialEq, Eq, Default, Debug)]
@@ -31,15 +30,16 @@ impl Sample for Mode {
 
     ghost script = { mode_script };
 
-    ghost alike = { alike_modes _ refl refl refl refl refl refl refl refl refl };
+    fn is_like(&self, other: &Mode) -> bool {
+        self == other
+    }
 
     fn letter() -> u8 {
         b'M'
     }
 
-    fn text(&self) -> ArrayVec<u8, TEXT> {
-        let mut text = ArrayVec::new();
-        text.push(self.letter());
-        text
+    fn write_text(&self, out: &mut [u8; TEXT]) -> usize {
+        out[0] = self.letter();
+        1
     }
 }

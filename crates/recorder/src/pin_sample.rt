@@ -1,9 +1,7 @@
-ghost use Rattle.std.specs.Prelude.{refl};
 ghost use Rattle.recorder.specs.Samples.{pin_kind, pin_script};
 
 use crate::stretch::{Sample, TEXT};
-use crate::texts::{add, hex4};
-use arrayvec::ArrayVec;
+use crate::texts::hex4;
 
 // The pins at a tick, a bit each: their levels, and which of them the chip drives.
 #[derive(Clone, Copy, PartialEq, Eq, Default, Debug)]
@@ -17,17 +15,19 @@ impl Sample for PinSample {
 
     ghost script = { pin_script };
 
-    ghost alike = { λ x y. refl };
+    fn is_like(&self, other: &PinSample) -> bool {
+        self == other
+    }
 
     fn letter() -> u8 {
         b'P'
     }
 
-    fn text(&self) -> ArrayVec<u8, TEXT> {
-        let mut text = ArrayVec::new();
-        add(&mut text, &hex4(self.levels));
-        text.push(b' ');
-        add(&mut text, &hex4(self.drive));
-        text
+    fn write_text(&self, out: &mut [u8; TEXT]) -> usize {
+        let [a, b, c, d] = hex4(self.levels);
+        let [e, f, g, h] = hex4(self.drive);
+        let text = [a, b, c, d, b' ', e, f, g, h];
+        out[..text.len()].copy_from_slice(&text);
+        text.len()
     }
 }

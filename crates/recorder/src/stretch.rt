@@ -1,7 +1,9 @@
 ghost use Rattle.std.specs.Prelude.{◌≡◌, ◌^◌, nat_lt, if◌then◌else◌, Some, None};
 ghost use Rattle.recorder.specs.Charts.{end};
 ghost use Rattle.recorder.specs.Kinds.{Kind, Script};
+ghost use Rattle.recorder.specs.Lines.{texted};
 
+use crate::texts::add;
 use arrayvec::ArrayVec;
 
 // A longest row of alike samples: `length` ticks from tick `offset` on.
@@ -25,20 +27,31 @@ impl<S> Stretch<S> {
 pub const TEXT: usize = 19;
 
 // What is sampled once a tick: it tells likeness, and its text in a line.
-pub trait Sample: Copy + PartialEq {
+pub trait Sample: Copy {
     // Likeness, with the proof that it is equality in all parts.
     ghost kind: { Kind Self };
 
     // The letter of its lines, and the text of each sample.
     ghost script: { Script Self };
 
+    fn is_like(&self, other: &Self) -> bool
+        ensures { result ≡ kind.like self.now other.now };
+
     fn letter() -> u8
         ensures { result ≡ script.letter };
 
-    // Its text. It is put together byte by byte: no contract of `write!` says that it succeeds where there is room.
-    fn text(&self) -> ArrayVec<u8, TEXT>
-        ensures { result.items ≡ script.text self.now };
+    // Writes the text over the start of `out`, and answers its length.
+    fn write_text(&self, out: &mut [u8; TEXT]) -> usize
+        ensures { (result, out.new) ≡ texted (script.text self.now) out.old };
 
-    // `==` tells likeness.
-    ghost alike: { (x y : Self) → Self.eq x y ≡ kind.like x y };
+    // The text as a value.
+    fn text(&self) -> ArrayVec<u8, TEXT>
+        ensures { result.items ≡ script.text self.now }
+    {
+        let mut out = [0; TEXT];
+        let length = self.write_text(&mut out);
+        let mut text = ArrayVec::new();
+        add(&mut text, &out[..length]);
+        text
+    }
 }

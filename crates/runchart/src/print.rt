@@ -15,14 +15,17 @@ use recorder::stretch::Stretch;
 use report::{add_lines, add_outcome};
 use std::alloc::{AllocError, Global};
 
+// The bytes of an input: an image, and a grant of four bytes.
+pub const INPUT: usize = IMAGE + 4;
+
 // The image of an input, and the grant behind it, low byte first. None where it is not just these.
 fn read_input(input: &[u8]) -> Option<(&[u8], u64)>
     ensures { MatchOption result (length input.now ≢ 2052) (λ x. IsInput input.now x.0.now x.1) }
 {
-    let (image, grant) = input.split_last_chunk()?;
-    if image.len() != IMAGE {
+    if input.len() != INPUT {
         return None;
     }
+    let (image, grant) = input.split_last_chunk()?;
     Some((image, u32::from_le_bytes(*grant) as u64))
 }
 

@@ -1,4 +1,5 @@
 mod Counting
+mod Lines
 mod Unchanged
 mod Walking
 mod Whole

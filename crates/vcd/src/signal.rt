@@ -53,6 +53,14 @@ pub(crate) struct Id {
     ghost ascii: { code < 128 },
 }
 
+impl Id {
+    pub(crate) fn code(self) -> u8
+        ensures { result ≡ self.code }
+    {
+        self.code
+    }
+}
+
 impl fmt::Display for Id {
     ghost output = { λ id. Some (id.code ∷ []) };
 

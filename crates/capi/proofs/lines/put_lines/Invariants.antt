@@ -1,7 +1,6 @@
 use Rattle.std.proofs.Common.{◌≡◌, ◌*◌, ◌≤◌, take}
 use Rattle.std.specs.List.{flat_map}
-use Rattle.recorder.specs.Lines.{line_of}
-use Rattle.capi.specs.Written.{texted}
+use Rattle.recorder.specs.Lines.{line_of, texted}
 use Rattle.capi.proofs.lines.put_lines.Given as goal
 
 -- the lines of the stretches below the index are written

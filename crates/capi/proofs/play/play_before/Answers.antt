@@ -1,7 +1,7 @@
 use Rattle.std.proofs.Common.{◌≡◌, ◌++◌, ◌∙◌, take, drop, replicate, ap, arith}
 use Rattle.std.proofs.lemmas.List.{take-replicate, length-take-le, length-replicate}
+use Rattle.recorder.specs.Lines.{texted}
 use Rattle.bench.specs.Charting.{both}
-use Rattle.capi.specs.Written.{texted}
 use Rattle.capi.specs.Records.{record_of}
 use Rattle.capi.specs.Playing.{Made, made, no_pins, no_mode, played_of, lines_of}
 use Rattle.capi.proofs.play.play_before.Goals as goal
