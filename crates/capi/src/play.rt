@@ -4,7 +4,7 @@ ghost use Rattle.bench.specs.Charting.{both};
 ghost use Rattle.bench.specs.Runs.{answer, played};
 ghost use Rattle.capi.specs.Describing.{image_of};
 ghost use Rattle.capi.specs.Records.{record_of};
-ghost use Rattle.capi.specs.Playing.{made, calls_made, powered_of, played_of, lines_of, no_pins, no_mode, Room, Wrote};
+ghost use Rattle.capi.specs.Playing.{made, calls_made, powered_of, played_of, lines_of, Room, Wrote};
 
 use crate::answer::Answer;
 use crate::description::Description;
@@ -19,18 +19,21 @@ use recorder::mode::Mode;
 use recorder::pin_sample::PinSample;
 use recorder::stretch::Stretch;
 
-// Places that show nothing.
-fn no_pins() -> Stretch<PinSample>
-    ensures { result ≡ no_pins }
-{
-    Stretch::default()
-}
+// Places that show nothing, as constants: an array that a function fills is written twice.
+const NO_PINS: Stretch<PinSample> = Stretch {
+    offset: 0,
+    length: 0,
+    sample: PinSample {
+        levels: 0,
+        drive: 0,
+    },
+};
 
-fn no_mode() -> Stretch<Mode>
-    ensures { result ≡ no_mode }
-{
-    Stretch::default()
-}
+const NO_MODE: Stretch<Mode> = Stretch {
+    offset: 0,
+    length: 0,
+    sample: Mode::Running,
+};
 
 // The chip that a description's calls begin with.
 fn powered_on(description: &Description) -> Chip
@@ -93,8 +96,6 @@ fn put_charts(
 
 // Plays a description before a host, and answers how many bytes of lines it wrote. The three buffers stand side by side:
 // of a struct that lends them, a caller would learn what it holds afterwards, and not what its own buffers hold.
-// It is not inlined, so that no wiring has the arrays of another on the stack beside its own.
-#[inline(never)]
 pub(crate) fn play_before<P: PinHost>(
     description: &Description,
     host: &P,
@@ -105,11 +106,11 @@ pub(crate) fn play_before<P: PinHost>(
     requires room { Room description.now.experiment.sizes (length answers.old) (length fields.old) (length lines.old) }
     ensures { Wrote description.now.experiment.sizes (played_of description.now.bytes.now description.now.experiment.sizes (P.meaning host.now)) answers.old answers.new fields.old fields.new lines.old lines.new result }
 {
+    // Whole arrays, of which each chart takes its places: nothing is allocated.
+    let mut pins = [NO_PINS; PLACES];
+    let mut modes = [NO_MODE; PLACES];
     let sizes = description.experiment.sizes;
     let calls = sizes.calls as usize;
-    // Whole arrays, of which each chart takes its places: nothing is allocated.
-    let mut pins = [no_pins(); PLACES];
-    let mut modes = [no_mode(); PLACES];
     let pins = &mut pins[..sizes.pins as usize];
     let modes = &mut modes[..sizes.modes as usize];
     let mut chip = powered_on(description);

@@ -9,16 +9,16 @@ use Rattle.capi.proofs.play.play_before.Goals as goal
 pub put_charts-requires : goal.put_charts-requires
 put_charts-requires g c =
     let s = c.args.description.now.experiment.sizes in
-    let pins = length-take-le s.pins (replicate 2048 c.no_pins-pins.result) (omega (arith, length-replicate 2048 c.no_pins-pins.result)) in
-    let modes = length-take-le s.modes (replicate 2048 c.no_mode-modes.result) (omega (arith, length-replicate 2048 c.no_mode-modes.result)) in
+    let pins = length-take-le s.pins (replicate 2048 no_pins) (omega (arith, length-replicate 2048 no_pins)) in
+    let modes = length-take-le s.modes (replicate 2048 no_mode) (omega (arith, length-replicate 2048 no_mode)) in
     omega arith
 
 pub returns : goal.returns
 returns g c =
     let d = c.args.description.now in
     let s = d.experiment.sizes in
-    let pins : take s.pins (replicate 2048 c.no_pins-pins.result) ≡ replicate s.pins no_pins = rw c.no_pins-pins.ensures (take-replicate s.pins 2048 no_pins (omega arith)) in
-    let modes : take s.modes (replicate 2048 c.no_mode-modes.result) ≡ replicate s.modes no_mode = rw c.no_mode-modes.ensures (take-replicate s.modes 2048 no_mode (omega arith)) in
+    let pins : take s.pins (replicate 2048 no_pins) ≡ replicate s.pins no_pins = take-replicate s.pins 2048 no_pins (omega arith) in
+    let modes : take s.modes (replicate 2048 no_mode) ≡ replicate s.modes no_mode = take-replicate s.modes 2048 no_mode (omega arith) in
     let all : made c.make_calls.new.answers c.make_calls.new.chip.held (both c.make_calls.new.pins c.make_calls.new.modes) ≡ played_of d.bytes.now s (g.P.PinHost.meaning c.args.host.now) =
     rw (c.powered_on-chip.ensures, pins, modes) at c.make_calls.ensures in
     record {
